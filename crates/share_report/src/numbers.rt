@@ -2,11 +2,11 @@
 ghost use mathlib.Core.Path.{_≡_};
 ghost use Rattle.std.specs.Vec.{made};
 ghost use Rattle.share_report.specs.Numbers.{numbersOf, shownNumbers};
+use std::alloc::AllocError;
+use std::alloc::Global;
 use text::WordFault;
 use text::Words;
 use text::number_of;
-use std::alloc::AllocError;
-use std::alloc::Global;
 
 // A word that is no number of 32 bits: its place among the words, from 1, the word, and why.
 #[derive(Clone, Copy)]

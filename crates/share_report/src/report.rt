@@ -15,7 +15,6 @@ ghost use Rattle.share_report.specs.Shown.{shownShares, shownReport};
 ghost use Rattle.share_report.specs.Report.{rowText, rowOf, headOf, sumText, leftText, footOf, sharesOf, refusedLine, shownByte, shownWord, badWordLine, dividedBy, reportOf};
 use crate::numbers::Misread;
 use crate::numbers::read_numbers;
-use text::WordFaultDisplay;
 use sharing::Division;
 use sharing::Down;
 use sharing::DownRule;
@@ -27,6 +26,7 @@ use std::alloc::AllocError;
 use std::alloc::Global;
 use tariff::Refusal;
 use tariff::refusal::RefusalDisplay;
+use text::WordFaultDisplay;
 
 // An answer: whether the text was accepted, and the table or the line.
 #[derive(Drop)]
