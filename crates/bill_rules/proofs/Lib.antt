@@ -1,0 +1,4 @@
+pub mod Agreement
+pub mod Balance
+pub mod Cells
+pub mod Sums
