@@ -1,6 +1,7 @@
 use mathlib.Core.Path.{_≡_, ap, _∙_}
 use mathlib.Core.List.{List, _++_}
 use Prim.Native.Nat.{ℕ, _-_, _<_, _≤_}
+use borrow.Author.Needs.{needs}
 use native.Mathlib.Omega.{arith}
 use lib.IntN.{ℤ, pos, _-ℤ_}
 use lib.ListN.{length}
@@ -29,4 +30,4 @@ left-shown pool units some =
     )
 
 pub returns : need.returns
-returns c = record { answers = c .report-on .ensures; left = left-shown }
+returns c = record { answers = search needs; left = left-shown }
