@@ -10,18 +10,20 @@
 --   recordRefusal         why the record is refused: all of its length, and then its kind
 --   recordIn              the record, or its refusal
 --   recordAt, nextPlace   what the reader answers at a place of a file, and where it then stands
---   misplaced             the first record is the header and no other is
+--   headed, misplaced     the record at place 1 is to be the header, and no other is to be one
 --   orderedAt, placeInOrder   the same where the header's order is looked at too
 --   Contents              what a reading of a whole file gives: the records up to the first
 --                         refusal, and that refusal if there is one
 --   contentsFrom          the contents from a place on, of at most so many records
 --   contentsOf            the contents of a file
 --   recordsOf             a file's records, or the first refusal
+--   oneSaid, said         what a call answered, each record by what it says
 use mathlib.Core.Bool.{Bool, true, false, cond, not, _&&_, _||_}
 use mathlib.Core.List.{List, [], _∷_, _++_}
 use Prim.Native.Nat.{ℕ, zero, suc, _+_, _-_, _*_}
 use lib.Dec.{eqb, ltb, leb}
 use lib.ListN.{length, getD, take, drop}
+use Rattle.std.specs.Options.{mapped}
 use Rattle.std.specs.declared.option.Option.{Option}
 use Rattle.std.specs.declared.option.Option.the-variants.{Some, None}
 use Rattle.std.specs.declared.result.Result.{Result}
@@ -97,13 +99,16 @@ after (Ok (Some x)) place next = next
 abbrev pub nextPlace : List ℕ → ℕ → ℕ
 nextPlace bs place = after (recordAt bs place) place (place + (2 + lengthIn (drop place bs)))
 
-abbrev pub misplaced : ℕ → Item → Bool
-misplaced place item = cond (eqb place 1) (not (isHeader item)) (isHeader item)
+abbrev pub headed : Option Item → Bool
+headed None = false
+headed (Some item) = isHeader item
+
+abbrev pub misplaced : ℕ → Option Item → Bool
+misplaced place found = cond (eqb place 1) (not (headed found)) (headed found)
 
 abbrev pub inOrder : ℕ → Result (Option Item) Refusal → Result (Option Item) Refusal
 inOrder place (Err e) = Err e
-inOrder place (Ok None) = cond (eqb place 1) (Err (RecordKind place)) (Ok None)
-inOrder place (Ok (Some item)) = cond (misplaced place item) (Err (RecordKind place)) (Ok (Some item))
+inOrder place (Ok found) = cond (misplaced place found) (Err (RecordKind place)) (Ok found)
 
 abbrev pub orderedAt : List ℕ → ℕ → Result (Option Item) Refusal
 orderedAt bs place = inOrder place (recordAt bs place)
@@ -144,6 +149,5 @@ oneSaid (Ok r) = Ok (itemOf r)
 oneSaid (Err e) = Err e
 
 abbrev pub said : Result (Option Record) Refusal → Result (Option Item) Refusal
-said (Ok None) = Ok None
-said (Ok (Some r)) = Ok (Some (itemOf r))
+said (Ok found) = Ok (mapped itemOf found)
 said (Err e) = Err e

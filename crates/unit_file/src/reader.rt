@@ -4,12 +4,13 @@ ghost use mathlib.Core.Bool.{Bool, true, false, not};
 ghost use mathlib.Core.List.{[], _∷_};
 ghost use Prim.Native.Nat.{ℕ, _+_, _-_, _*_, _<_, _≤_};
 ghost use lib.ListN.{length, getD, take, drop};
+ghost use Rattle.std.specs.Options.{mapped};
 ghost use Rattle.std.specs.Results.{Cases};
 ghost use Rattle.std.specs.declared.option.Option.the-variants.{None, Some};
 ghost use Rattle.tariff.specs.Refusals.{answer, firstOf};
 ghost use Rattle.tariff.specs.declared.refusal.Refusal.the-variants.{RecordKind};
-ghost use Rattle.unit_file.specs.Reading.{twoIn, fourIn, lengthIn, sizesIn, unitIn, costIn, itemBy, fitsKind, badLength, badKind, kindIn, recordAt, nextPlace, orderedAt, placeInOrder, openRefusal, oneSaid, said};
-ghost use Rattle.unit_file.specs.Records.{unprintable};
+ghost use Rattle.unit_file.specs.Reading.{twoIn, fourIn, lengthIn, sizesIn, unitIn, costIn, itemBy, fitsKind, badLength, badKind, kindIn, recordAt, nextPlace, orderedAt, placeInOrder, openRefusal, misplaced, oneSaid, said};
+ghost use Rattle.unit_file.specs.Records.{itemOf, unprintable};
 use crate::record::Record;
 use tariff::CostRow;
 use tariff::Refusal;
@@ -127,6 +128,16 @@ fn has_bad_length(rest: &[u8]) -> bool
     len == 0 || rest.len() - 2 < len || !fits_kind(rest[2], len)
 }
 
+// Whether what was found at a place breaks the header's order; at place 1 nothing else may stand.
+fn is_misplaced(place: usize, found: Option<Record>) -> bool
+    ensures { λ r. ⌜ r ≡ misplaced place (mapped itemOf (found .entry)) ⌝ }
+{
+    match found {
+        Some(Record::Header(_)) => place != 1,
+        _ => place == 1,
+    }
+}
+
 impl<'a> Reader<'a> {
     // A reader that stands at the first record.
     pub fn new(bytes: &'a [u8]) -> Result<Reader<'a>, Refusal>
@@ -166,6 +177,25 @@ impl<'a> Reader<'a> {
             Ok(record) => {
                 self.place = place + whole;
                 Ok(Some(record))
+            }
+            Err(e) => Err(e),
+        }
+    }
+
+    // The next record of a whole file, in which the first record is the header and no other is.
+    pub fn next_in_order(&mut self) -> Result<Option<Record<'a>>, Refusal>
+        ensures answers { λ r. ⌜ said r ≡ orderedAt (now (now (self .entry) .bytes)) (now (self .entry) .place) ⌝ }
+        ensures place { λ r. ⌜ now (self .exit) .place ≡ placeInOrder (now (now (self .entry) .bytes)) (now (self .entry) .place) ⌝ }
+        ensures bytes { λ r. ⌜ now (now (self .exit) .bytes) ≡ now (now (self .entry) .bytes) ⌝ }
+    {
+        let place = self.place;
+        match self.next() {
+            Ok(found) => {
+                if is_misplaced(place, found) {
+                    self.place = place;
+                    return Err(Refusal::RecordKind { place });
+                }
+                Ok(found)
             }
             Err(e) => Err(e),
         }
