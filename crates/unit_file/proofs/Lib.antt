@@ -1,1 +1,4 @@
 pub mod Framing
+pub mod Fields
+pub mod Walk
+pub mod RoundTrip

@@ -17,6 +17,7 @@
 --   contentsFrom          the contents from a place on, of at most so many records
 --   contentsOf            the contents of a file
 --   recordsOf             a file's records, or the first refusal
+--   counted               how many records, or the refusal
 --   oneSaid, said         what a call answered, each record by what it says
 use mathlib.Core.Bool.{Bool, true, false, cond, not, _&&_, _||_}
 use mathlib.Core.List.{List, [], _∷_, _++_}
@@ -142,6 +143,10 @@ contentsOf bs = begun (openRefusal bs) (contentsFrom (length bs) bs 1)
 
 abbrev pub recordsOf : List ℕ → Result (List Item) Refusal
 recordsOf bs = answer (contentsOf bs .refusal) (contentsOf bs .items)
+
+abbrev pub counted : Result (List Item) Refusal → Result ℕ Refusal
+counted (Ok items) = Ok (length items)
+counted (Err e) = Err e
 
 -- what a call answered, with each record by what it says
 abbrev pub oneSaid : Result Record Refusal → Result Item Refusal

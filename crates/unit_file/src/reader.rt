@@ -9,7 +9,8 @@ ghost use Rattle.std.specs.Results.{Cases};
 ghost use Rattle.std.specs.declared.option.Option.the-variants.{None, Some};
 ghost use Rattle.tariff.specs.Refusals.{answer, firstOf};
 ghost use Rattle.tariff.specs.declared.refusal.Refusal.the-variants.{RecordKind};
-ghost use Rattle.unit_file.specs.Reading.{twoIn, fourIn, lengthIn, sizesIn, unitIn, costIn, itemBy, fitsKind, badLength, badKind, kindIn, recordAt, nextPlace, orderedAt, placeInOrder, openRefusal, misplaced, oneSaid, said};
+ghost use Rattle.unit_file.specs.Reading.{twoIn, fourIn, lengthIn, sizesIn, unitIn, costIn, itemBy, fitsKind, badLength, badKind, kindIn, recordAt, nextPlace, orderedAt, placeInOrder, openRefusal, misplaced, recordsOf, counted, oneSaid, said};
+ghost use Rattle.unit_file.specs.Laws.{Rewritten};
 ghost use Rattle.unit_file.specs.Records.{itemOf, unprintable};
 use crate::record::Record;
 use tariff::CostRow;
@@ -45,7 +46,11 @@ fn sizes_in(fields: &[u8]) -> Sizes
     requires { ⌜ length (now fields) ≡ 4 ⌝ }
     ensures { λ r. ⌜ r ≡ sizesIn (now (fields .entry)) ⌝ }
 {
-    Sizes { customers: two(fields, 0), days: fields[2], subzones: fields[3] }
+    Sizes {
+        customers: two(fields, 0),
+        days: fields[2],
+        subzones: fields[3],
+    }
 }
 
 fn unit_in(fields: &[u8]) -> UnitRow
@@ -200,4 +205,17 @@ impl<'a> Reader<'a> {
             Err(e) => Err(e),
         }
     }
+}
+
+// Reads a whole file: how many records it has, or the first refusal.
+pub fn check_file(bytes: &[u8]) -> Result<usize, Refusal>
+    ensures counts { λ r. ⌜ r ≡ counted (recordsOf (now (bytes .entry))) ⌝ }
+    ensures rewritten { λ r. ⌜ Rewritten (now (bytes .entry)) ⌝ }
+{
+    let mut reader = Reader::new(bytes)?;
+    let mut count = 0;
+    while let Some(_) = reader.next_in_order()? {
+        count += 1;
+    }
+    Ok(count)
 }

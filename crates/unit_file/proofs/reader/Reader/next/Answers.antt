@@ -14,11 +14,11 @@ returns-then-has-bad-length c =
 pub returns-in-Ok : need.returns-in-Ok
 returns-in-Ok c =
     let w = whole (c .args .self .now .bytes .now) (c .args .self .now .place) (c .two .result) (Ok (itemOf (c .in-Ok .record)))
-            (omega arith) (c .if-has-bad-length .ensures tt .value) (c .two .ensures) (c .in-Ok .ensures tt) in
+    (omega arith) (c .if-has-bad-length .ensures tt .value) (c .two .ensures) (c .in-Ok .ensures tt) in
     record { answers = w .0; place = w .1; bytes = refl }
 
 pub returns-in-Err : need.returns-in-Err
 returns-in-Err c =
     let w = whole (c .args .self .now .bytes .now) (c .args .self .now .place) (c .two .result) (Err (c .in-Err .e))
-            (omega arith) (c .if-has-bad-length .ensures tt .value) (c .two .ensures) (c .in-Err .ensures tt) in
+    (omega arith) (c .if-has-bad-length .ensures tt .value) (c .two .ensures) (c .in-Err .ensures tt) in
     record { answers = w .0; place = w .1; bytes = refl }
