@@ -134,7 +134,7 @@ fn has_bad_length(rest: &[u8]) -> bool
 }
 
 // Whether what was found at a place breaks the header's order; at place 1 nothing else may stand.
-fn is_misplaced(place: usize, found: Option<Record>) -> bool
+pub(crate) fn is_misplaced(place: usize, found: Option<Record>) -> bool
     ensures { λ r. ⌜ r ≡ misplaced place (mapped itemOf (found .entry)) ⌝ }
 {
     match found {
