@@ -158,7 +158,7 @@ impl<'a> Reader<'a> {
     pub fn place(&self) -> usize
         ensures { λ r. ⌜ r ≡ now (self .entry) .place ⌝ }
     {
-        self.place
+        self.place // of the next record
     }
 
     // The next record, whatever its kind, and none at the end; the reader stays where a record is

@@ -195,7 +195,7 @@ impl Writer {
     pub fn place(&self) -> usize
         ensures { λ r. ⌜ r ≡ now (self .entry) .place ⌝ }
     {
-        self.place
+        self.place // behind the last record
     }
 
     // Writes one record behind the others; a refused record leaves buffer and place as they were.
