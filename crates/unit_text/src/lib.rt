@@ -1,0 +1,7 @@
+// The text form of a unit file: one record a line, in words and numbers. `list` makes the text of
+// a file, and `compose` makes the file of a text.
+pub mod listing;
+mod parsing;
+
+pub use listing::Listing;
+pub use listing::list;
