@@ -14,7 +14,11 @@ use Rattle.std.specs.declared.option.Option.{Option}
 use Rattle.std.specs.declared.option.Option.the-variants.{Some, None}
 use Rattle.std.specs.declared.result.Result.{Result}
 use Rattle.std.specs.declared.result.Result.the-variants.{Ok, Err}
-use Rattle.unit_text.specs.Parsing.{afterWord, isDigit, onDigits, numberIn}
+use lib.Chars.{codes}
+use Rattle.tariff.specs.declared.rows.UnitRow.{UnitRow}
+use Rattle.tariff.specs.declared.rows.CostRow.{CostRow}
+use Rattle.unit_file.specs.Records.{Item, unit, cost}
+use Rattle.unit_text.specs.Parsing.{afterWord, isDigit, onDigits, numberIn, fieldIn, atEnd, unitIn, costIn}
 
 -- two pieces that were added one behind the other
 pub made-both : {T E : Type 0} (r : Result T E) (was mid now xs ys : List ℕ) → mid ≡ was ++ xs → now ≡ cond (isOk r) (mid ++ ys) mid → made r (λ _. now ≡ was ++ (xs ++ ys))
@@ -70,3 +74,24 @@ pub digits-all : (most n : ℕ) (text : List ℕ) (i : ℕ) → length text ≤ 
     Some (n, take (length text - length text) (drop (length text) text)) ≡ numberIn most text
 digits-all most n text i out inv some first =
     sym (number-begins most text some first ∙ inv ∙ ap (onDigits most n) (drop-all i text out) ∙ ap (λ (xs : List ℕ). Some (n, xs)) (sym (drop-all (length text) text (omega arith)) ∙ sym (take-rest text (length text))))
+
+-- fields one behind the other
+pub not-at-end : {X : Type 0} (text : List ℕ) (x : X) → 0 < length text → None ≡ atEnd text x
+not-at-end [] x h = absurd (omega arith)
+not-at-end (b ∷ bs) x h = refl
+
+pub at-end : {X : Type 0} (text : List ℕ) (x : X) → length text ≤ 0 → Some x ≡ atEnd text x
+at-end [] x h = refl
+at-end (b ∷ bs) x h = absurd (omega arith)
+
+pub cost-fields : (t line subzone day hour amount : List ℕ) (n₁ n₂ n₃ n₄ n₅ : ℕ) →
+    Some (n₁, line) ≡ fieldIn (codes "line ") 255 t → Some (n₂, subzone) ≡ fieldIn (codes " subzone ") 255 line → Some (n₃, day) ≡ fieldIn (codes " day ") 255 subzone →
+    Some (n₄, hour) ≡ fieldIn (codes " hour ") 255 day → Some (n₅, amount) ≡ fieldIn (codes " amount ") 4294967295 hour →
+    costIn t ≡ atEnd amount (cost (record { line = n₁; subzone = n₂; day = n₃; hour = n₄; amount = n₅ }))
+cost-fields t line subzone day hour amount n₁ n₂ n₃ n₄ n₅ e₁ e₂ e₃ e₄ e₅ = rw (sym e₁, sym e₂, sym e₃, sym e₄, sym e₅)
+
+pub unit-fields : (t customer day hour subzone usage quantity : List ℕ) (n₁ n₂ n₃ n₄ n₅ n₆ : ℕ) →
+    Some (n₁, customer) ≡ fieldIn (codes "customer ") 65535 t → Some (n₂, day) ≡ fieldIn (codes " day ") 255 customer → Some (n₃, hour) ≡ fieldIn (codes " hour ") 255 day →
+    Some (n₄, subzone) ≡ fieldIn (codes " subzone ") 255 hour → Some (n₅, usage) ≡ fieldIn (codes " use ") 255 subzone → Some (n₆, quantity) ≡ fieldIn (codes " quantity ") 4294967295 usage →
+    unitIn t ≡ atEnd quantity (unit (record { customer = n₁; day = n₂; hour = n₃; subzone = n₄; usage = n₅; quantity = n₆ }))
+unit-fields t customer day hour subzone usage quantity n₁ n₂ n₃ n₄ n₅ n₆ e₁ e₂ e₃ e₄ e₅ e₆ = rw (sym e₁, sym e₂, sym e₃, sym e₄, sym e₅, sym e₆)
