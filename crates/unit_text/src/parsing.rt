@@ -74,7 +74,11 @@ fn header_in<'a>(text: &'a [u8]) -> Option<Record<'a>>
     if text.len() > 0 {
         return None;
     }
-    let sizes = Sizes { customers: customers as u16, days: days as u8, subzones: subzones as u8 };
+    let sizes = Sizes {
+        customers: customers as u16,
+        days: days as u8,
+        subzones: subzones as u8,
+    };
     Some(Record::Header(sizes))
 }
 
