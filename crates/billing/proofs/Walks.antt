@@ -25,6 +25,11 @@ count-more f a x le =
     ∙ sumBy-map-counting-more f (λ (n : ℕ). n) a (x - a) x (omega arith)
     ∙ ap (λ n. n + f x) (sym (plain (x - a)))
 
+pub count-next : (f : ℕ → ℕ) (n : ℕ) → sumBy f (counting 0 (n + 1)) ≡ sumBy f (counting 0 n) + f n
+count-next f n =
+    let plain = λ (k : ℕ). ap (sumBy f) (sym (map-id (counting 0 k))) in
+    plain (n + 1) ∙ sumBy-map-counting-more f (λ (k : ℕ). k) 0 n n (omega arith) ∙ ap (λ k. k + f n) (sym (plain n))
+
 pub adds-none : (column : List ℕ) (F : ℕ → ℕ → ℕ) (a : ℕ) → Adds column column (λ k. sumBy (F k) (counting a (a - a)))
 adds-none column F a k h = omega (arith, count-none (F k) a)
 
@@ -61,14 +66,13 @@ module _ (ax : Axis) (r b : Bool) (most : ℕ) (made : Made ax r most) (is : r �
   pub on-it : (x : ℕ) → ax .first ≤ x → x < ax .end → OnAxis b x
   on-it x lo hi = (λ t. omega (arith, first-is ∙ ap (λ t. cond t 1 0) t), λ t. omega (arith, end-is ∙ ap (λ t. cond t (most + 1) 1) t))
 
+  pub axis-is : counting (ax .first) (ax .end - ax .first) ≡ axis b most
+  axis-is = go b first-is end-is
+    where
+      go : (b : Bool) → ax .first ≡ cond b 1 0 → ax .end ≡ cond b (most + 1) 1 → counting (ax .first) (ax .end - ax .first) ≡ axis b most
+      go true p q = let n : ax .end - ax .first ≡ most = omega arith in ap (λ a. counting a (ax .end - ax .first)) p ∙ ap (counting 1) n
+      go false p q = let n : ax .end - ax .first ≡ 1 = omega arith in ap (λ a. counting a (ax .end - ax .first)) p ∙ ap (counting 0) n
+
   -- at the end of the loop all values have been met
   pub all-met : (f : ℕ → ℕ) (x : ℕ) → ax .end ≤ x → x ≤ ax .end → sumBy f (counting (ax .first) (x - ax .first)) ≡ sumBy f (axis b most)
-  all-met f x lo hi = go b first-is end-is
-    where
-      go : (b : Bool) → ax .first ≡ cond b 1 0 → ax .end ≡ cond b (most + 1) 1 → sumBy f (counting (ax .first) (x - ax .first)) ≡ sumBy f (axis b most)
-      go true p q =
-          let n : x - ax .first ≡ most = omega arith in
-          ap (λ a. sumBy f (counting a (x - ax .first))) p ∙ ap (λ n. sumBy f (counting 1 n)) n
-      go false p q =
-          let n : x - ax .first ≡ 1 = omega arith in
-          ap (λ a. sumBy f (counting a (x - ax .first))) p ∙ ap (λ n. sumBy f (counting 0 n)) n
+  all-met f x lo hi = let e : x ≡ ax .end = omega arith in ap (λ n. sumBy f (counting (ax .first) (n - ax .first))) e ∙ ap (sumBy f) axis-is

@@ -5,6 +5,7 @@
 --   OnAxis   a value of a field: 0 where the line does not need the field, and only there
 --   Proper   an area and a day that the line can have costs for
 --   chargedIn, strandedIn   what a customer is charged of some cells, and what of them is stranded
+--   Credited what the station part of some areas and days has added to its two columns
 --   Sound    what the calculation knows of a book's sizes and lawful rows
 use mathlib.Core.Path.{_≡_}
 use mathlib.Core.Bool.{Bool, true, false}
@@ -12,6 +13,7 @@ use mathlib.Core.List.{List}
 use Prim.Native.Nat.{ℕ, _+_, _<_, _≤_}
 use lib.ListN.{length, getD}
 use Rattle.std.specs.shelf.Lists.{All, sumBy}
+use Rattle.std.specs.declared.option.Option.the-variants.{Some}
 use Rattle.tariff.specs.declared.rows.Sizes.{Sizes}
 use Rattle.tariff.specs.declared.rows.UnitRow.{UnitRow}
 use Rattle.tariff.specs.declared.rows.CostRow.{CostRow}
@@ -22,7 +24,7 @@ use Rattle.lines.specs.Lines.{zonal, dated}
 use Rattle.lines.specs.Cells.{cell}
 use Rattle.lines.specs.Totals.{allQuantities, costIn}
 use Rattle.sharing.specs.Rule.{Meaning}
-use Rattle.bill_rules.specs.Bill.{shareOf, strandedOf}
+use Rattle.bill_rules.specs.Bill.{shareOf, strandedOf, stationOf, creditOf}
 
 abbrev pub Adds : List ℕ → List ℕ → (ℕ → ℕ) → Type 0
 Adds before after f = (k : ℕ) → k < length before → getD after k 0 ≡ getD before k 0 + f k
@@ -46,10 +48,18 @@ chargedIn m l z units costs cs k = sumBy (shareOf m l z units costs k) cs
 abbrev pub strandedIn : Meaning → Line → Sizes → List UnitRow → List CostRow → List Cell → ℕ
 strandedIn m l z units costs cs = sumBy (strandedOf m l z units costs) cs
 
+-- figures of at most `most` have been added for each of the areas and days
+pub record Credited (m : Meaning) (l : Line) (z : Sizes) (units : List UnitRow) (costs : List CostRow) (ds : List Cell) (most : ℕ) (stations stations′ credits credits′ : List ℕ) : Type 0 where
+  pub stations-added : Adds stations stations′ (λ k. sumBy (stationOf m l z units costs k) ds)
+  pub credits-added : Adds credits credits′ (λ k. sumBy (creditOf m l z units costs k) ds)
+  pub stations-rise : Rises stations stations′ most
+  pub credits-rise : Rises credits credits′ most
+
 pub record Sound (l : Line) (z : Sizes) (units : List UnitRow) (costs : List CostRow) : Type 0 where
   pub customers-few : z .customers ≤ mostCustomers
   pub days-few : z .days ≤ mostDays
   pub subzones-few : z .subzones ≤ mostSubzones
   pub customers-known : All (λ (u : UnitRow). u .customer < z .customers) units
   pub units-fit : allQuantities units ≤ mostAmount
+  pub station-dated : (station : ℕ) → l .station ≡ Some station → dated (l .span) ≡ true
   pub costs-fit : (a d h : ℕ) → Proper l a d → costIn (l .number) costs (cell a d h) ≤ mostAmount

@@ -2,3 +2,4 @@
 mod basis;
 mod charges;
 mod columns;
+mod stations;
