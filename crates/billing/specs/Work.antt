@@ -6,6 +6,8 @@
 --   Proper   an area and a day that the line can have costs for
 --   chargedIn, strandedIn   what a customer is charged of some cells, and what of them is stranded
 --   Credited what the station part of some areas and days has added to its two columns
+--   lineFigures  the figures of a line, or the first R that is too large
+--   Billable what is known of rows and columns that are not refused
 --   Sound    what the calculation knows of a book's sizes and lawful rows
 use mathlib.Core.Path.{_≡_}
 use mathlib.Core.Bool.{Bool, true, false}
@@ -14,17 +16,21 @@ use Prim.Native.Nat.{ℕ, _+_, _<_, _≤_}
 use lib.ListN.{length, getD}
 use Rattle.std.specs.shelf.Lists.{All, sumBy}
 use Rattle.std.specs.declared.option.Option.the-variants.{Some}
+use Rattle.std.specs.declared.result.Result.{Result}
+use Rattle.tariff.specs.declared.refusal.Refusal.{Refusal}
 use Rattle.tariff.specs.declared.rows.Sizes.{Sizes}
 use Rattle.tariff.specs.declared.rows.UnitRow.{UnitRow}
 use Rattle.tariff.specs.declared.rows.CostRow.{CostRow}
 use Rattle.tariff.specs.Limits.{mostCustomers, mostDays, mostSubzones, mostAmount}
+use Rattle.tariff.specs.Refusals.{firstOf, answer}
 use Rattle.lines.specs.declared.cell.Cell.{Cell}
 use Rattle.lines.specs.declared.line.Line.{Line}
-use Rattle.lines.specs.Lines.{zonal, dated}
+use Rattle.lines.specs.Lines.{zonal, dated, lineOf}
 use Rattle.lines.specs.Cells.{cell}
 use Rattle.lines.specs.Totals.{allQuantities, costIn}
 use Rattle.sharing.specs.Rule.{Meaning}
-use Rattle.bill_rules.specs.Bill.{shareOf, strandedOf, stationOf, creditOf}
+use Rattle.bill_rules.specs.Bill.{shareOf, strandedOf, stationOf, creditOf, Figures, figures, tooLarge, Lengths, misfit}
+use Rattle.bill_rules.specs.Laws.{LawfulRows}
 
 abbrev pub Adds : List ℕ → List ℕ → (ℕ → ℕ) → Type 0
 Adds before after f = (k : ℕ) → k < length before → getD after k 0 ≡ getD before k 0 + f k
@@ -63,3 +69,11 @@ pub record Sound (l : Line) (z : Sizes) (units : List UnitRow) (costs : List Cos
   pub units-fit : allQuantities units ≤ mostAmount
   pub station-dated : (station : ℕ) → l .station ≡ Some station → dated (l .span) ≡ true
   pub costs-fit : (a d h : ℕ) → Proper l a d → costIn (l .number) costs (cell a d h) ≤ mostAmount
+
+abbrev pub lineFigures : Meaning → Line → Sizes → List UnitRow → List CostRow → Result Figures Refusal
+lineFigures m l z units costs = answer (firstOf (tooLarge m l z units costs)) (figures m l z units costs)
+
+pub record Billable (n : ℕ) (l : Line) (z : Sizes) (units : List UnitRow) (costs : List CostRow) (p : Lengths) : Type 0 where
+  pub is : lineOf n ≡ Some l
+  pub fits : misfit z p ≡ false
+  pub lawful : LawfulRows z units costs

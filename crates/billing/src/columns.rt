@@ -81,3 +81,17 @@ pub fn column_total(column: &[u32]) -> u64
     }
     total
 }
+
+// The sum of a column of at most 256 figures of cents.
+pub fn column_cents(column: &[u64]) -> u64
+    requires few { ⌜ length (now column) ≤ mostCustomers ⌝ }
+    requires small { ⌜ Upto (now column) (2 ^ 48) ⌝ }
+    ensures value { λ r. ⌜ r ≡ sum (now (column .entry)) ⌝ }
+    ensures bound { λ r. ⌜ r ≤ 2 ^ 56 ⌝ }
+{
+    let mut total: u64 = 0;
+    for figure in column {
+        total += *figure;
+    }
+    total
+}
