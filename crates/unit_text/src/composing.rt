@@ -8,7 +8,7 @@ ghost use Rattle.std.specs.Vec.{made};
 ghost use Rattle.std.specs.declared.option.Option.the-variants.{None, Some};
 ghost use Rattle.std.specs.declared.result.Result.the-variants.{Ok, Err};
 ghost use Rattle.tariff.specs.Limits.{mostFileBytes};
-ghost use Rattle.unit_text.specs.Composing.{linesIn, composeFrom, composed, filed};
+ghost use Rattle.unit_text.specs.Composing.{linesIn, composeFrom, composed, filed, Restored};
 use crate::parsing::parse_line;
 use std::alloc::AllocError;
 use std::alloc::Global;
@@ -111,6 +111,7 @@ fn compose_into(text: &[u8], out: &mut [u8]) -> Result<usize, Fault>
 // The file of a text, or its first fault.
 pub fn compose(heap: Global, text: &[u8]) -> Result<Result<Vec<u8>, Fault>, AllocError>
     ensures file { λ r. ⌜ made r (λ answer. filed answer ≡ composed (now (text .entry))) ⌝ }
+    ensures restored { λ r. ⌜ made r (λ answer. Restored (now (text .entry)) (filed answer)) ⌝ }
 {
     let mut buffer = [0; MOST_FILE_BYTES];
     match compose_into(text, &mut buffer) {
