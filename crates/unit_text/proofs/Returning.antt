@@ -22,6 +22,7 @@ use Rattle.tariff.specs.Refusals.{answer}
 use Rattle.tariff.specs.declared.refusal.Refusal.{Refusal}
 use Rattle.tariff.specs.declared.refusal.Refusal.the-variants.{NoUnitFile, RecordLength, RecordKind, BufferTooShort}
 use Rattle.unit_file.specs.Records.{Item, bytesOf, fileOf}
+use Rattle.unit_file.specs.Laws.{Rewritten}
 use Rattle.unit_file.specs.Reading.{misplaced, Contents, contentsOf, recordsOf}
 use Rattle.unit_file.specs.Writing.{badNoteLength, badNoteBytes, putRefusal, finishRefusal, LawfulFrom, Lawful}
 use Rattle.unit_file.proofs.RoundTrip.{rewritten}
@@ -99,5 +100,11 @@ pub restores : (text : List ℕ) (made : Result (List ℕ) Fault) → made ≡ c
 restores text made e bytes items small h same = e ∙ ap composed same ∙ returns-file bytes small items h
 
 -- the bytes at hand, each of which fits a byte
+all-bytes : (bs : List ℕ) → ((i : ℕ) → Fits w8 (getD bs i 0)) → All (λ b. b < 256) bs
+all-bytes bs typed = all-from-getD (λ b. b < 256) bs 0 (λ i l. omega (arith, typed i))
+
+pub rewrites : (bs : List ℕ) → ((i : ℕ) → Fits w8 (getD bs i 0)) → Rewritten bs
+rewrites bs typed = rewritten bs (all-bytes bs typed)
+
 pub inverse : (bs : List ℕ) → ((i : ℕ) → Fits w8 (getD bs i 0)) → Inverse bs
-inverse bs typed = returns-file bs (all-from-getD (λ b. b < 256) bs 0 (λ i l. omega (arith, typed i)))
+inverse bs typed = returns-file bs (all-bytes bs typed)
