@@ -20,19 +20,22 @@ pub fn printed(heap: Global, text: &[u8]) -> Result<Result<Vec<u8>, Fault>, Allo
     compose(heap, text)
 }
 
-fn run(rt: &LibcRuntime) -> Result<(), AnyError> {
+fn run(rt: &LibcRuntime) -> Result<Option<Fault>, AnyError> {
     let mut input = Vec::new(rt.alloc());
     rt.stdin().read_to_end(&mut input)?;
     match printed(rt.alloc(), input.as_slice())? {
-        Ok(file) => rt.stdout().write_all(file.as_slice())?,
-        Err(fault) => {
-            let words = format!(rt.alloc(), "{fault}")?;
-            return Err(words.as_str().into());
+        Ok(file) => {
+            rt.stdout().write_all(file.as_slice())?;
+            Ok(None)
         }
+        Err(fault) => Ok(Some(fault)),
     }
-    Ok(())
 }
 
 fn main(rt: LibcRuntime) -> Result<(), AnyError> {
-    rt.report(run(&rt))
+    let Some(fault) = rt.report(run(&rt))? else {
+        return Ok(());
+    };
+    eprintln!(rt, "compose: {fault}")?;
+    Err("refused".into())
 }

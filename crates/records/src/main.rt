@@ -11,6 +11,7 @@ use std::alloc::Global;
 use std::error::AnyError;
 use std::io::Read;
 use std::io::Write;
+use tariff::Refusal;
 use tariff::refusal::RefusalDisplay;
 use unit_text::Listing;
 use unit_text::list;
@@ -25,18 +26,18 @@ pub fn printed(heap: Global, input: &[u8]) -> Result<Listing, AllocError>
     list(heap, input)
 }
 
-fn run(rt: &LibcRuntime) -> Result<(), AnyError> {
+fn run(rt: &LibcRuntime) -> Result<Option<Refusal>, AnyError> {
     let mut input = Vec::new(rt.alloc());
     rt.stdin().read_to_end(&mut input)?;
     let listing = printed(rt.alloc(), input.as_slice())?;
     rt.stdout().write_all(listing.text.as_slice())?;
-    let Some(refusal) = listing.refusal else {
-        return Ok(());
-    };
-    let words = format!(rt.alloc(), "{refusal}")?;
-    Err(words.as_str().into())
+    Ok(listing.refusal)
 }
 
 fn main(rt: LibcRuntime) -> Result<(), AnyError> {
-    rt.report(run(&rt))
+    let Some(refusal) = rt.report(run(&rt))? else {
+        return Ok(());
+    };
+    eprintln!(rt, "records: {refusal}")?;
+    Err("refused".into())
 }
