@@ -2,13 +2,17 @@
 ghost use mathlib.Core.Path.{_≡_};
 ghost use Rattle.std.specs.Of.Vec.{vec-items};
 ghost use Rattle.std.specs.Vec.{made};
+ghost use Rattle.unit_file.specs.Laws.{Rewritten};
 ghost use Rattle.unit_file.specs.Reading.{contentsOf};
+ghost use Rattle.unit_text.specs.Composing.{Inverse};
 ghost use Rattle.unit_text.specs.Lines.{listing};
 use std::alloc::AllocError;
 use std::alloc::Global;
 use std::error::AnyError;
 use std::io::Read;
 use std::io::Write;
+use tariff::Refusal;
+use tariff::refusal::RefusalDisplay;
 use unit_text::Listing;
 use unit_text::list;
 
@@ -16,21 +20,24 @@ use unit_text::list;
 pub fn printed(heap: Global, input: &[u8]) -> Result<Listing, AllocError>
     ensures text { λ r. ⌜ made r (λ l. vec-items (l .text) ≡ listing (now (input .entry))) ⌝ }
     ensures refusal { λ r. ⌜ made r (λ l. l .refusal ≡ contentsOf (now (input .entry)) .refusal) ⌝ }
+    ensures rewritten { λ _. ⌜ Rewritten (now (input .entry)) ⌝ }
+    ensures inverse { λ _. ⌜ Inverse (now (input .entry)) ⌝ }
 {
     list(heap, input)
 }
 
-fn run(rt: &LibcRuntime) -> Result<(), AnyError> {
+fn run(rt: &LibcRuntime) -> Result<Option<Refusal>, AnyError> {
     let mut input = Vec::new(rt.alloc());
     rt.stdin().read_to_end(&mut input)?;
     let listing = printed(rt.alloc(), input.as_slice())?;
     rt.stdout().write_all(listing.text.as_slice())?;
-    match listing.refusal {
-        None => Ok(()),
-        Some(_) => Err("the file is refused".into()),
-    }
+    Ok(listing.refusal)
 }
 
 fn main(rt: LibcRuntime) -> Result<(), AnyError> {
-    rt.report(run(&rt))
+    let Some(refusal) = rt.report(run(&rt))? else {
+        return Ok(());
+    };
+    eprintln!(rt, "records: {refusal}")?;
+    Err("refused".into())
 }

@@ -1,3 +1,5 @@
 pub mod Growing
 pub mod Scanning
 pub mod Assembling
+pub mod LinesBack
+pub mod Returning

@@ -17,8 +17,9 @@ use Rattle.std.specs.declared.result.Result.the-variants.{Ok, Err}
 use lib.Chars.{codes}
 use Rattle.tariff.specs.declared.rows.UnitRow.{UnitRow}
 use Rattle.tariff.specs.declared.rows.CostRow.{CostRow}
-use Rattle.unit_file.specs.Records.{Item, unit, cost}
-use Rattle.unit_text.specs.Parsing.{afterWord, isDigit, onDigits, numberIn, fieldIn, atEnd, unitIn, costIn}
+use Rattle.tariff.specs.declared.rows.Sizes.{Sizes}
+use Rattle.unit_file.specs.Records.{Item, header, unit, cost}
+use Rattle.unit_text.specs.Parsing.{afterWord, isDigit, onDigits, numberIn, fieldIn, atEnd, headerIn, unitIn, costIn}
 
 -- two pieces that were added one behind the other
 pub made-both : {T E : Type 0} (r : Result T E) (was mid now xs ys : List ℕ) → mid ≡ was ++ xs → now ≡ cond (isOk r) (mid ++ ys) mid → made r (λ _. now ≡ was ++ (xs ++ ys))
@@ -95,3 +96,8 @@ pub unit-fields : (t customer day hour subzone usage quantity : List ℕ) (n₁ 
     Some (n₄, subzone) ≡ fieldIn (codes " subzone ") 255 hour → Some (n₅, usage) ≡ fieldIn (codes " use ") 255 subzone → Some (n₆, quantity) ≡ fieldIn (codes " quantity ") 4294967295 usage →
     unitIn t ≡ atEnd quantity (unit (record { customer = n₁; day = n₂; hour = n₃; subzone = n₄; usage = n₅; quantity = n₆ }))
 unit-fields t customer day hour subzone usage quantity n₁ n₂ n₃ n₄ n₅ n₆ e₁ e₂ e₃ e₄ e₅ e₆ = rw (sym e₁, sym e₂, sym e₃, sym e₄, sym e₅, sym e₆)
+
+pub header-fields : (t customers days subzones : List ℕ) (n₁ n₂ n₃ : ℕ) →
+    Some (n₁, customers) ≡ fieldIn (codes "customers ") 65535 t → Some (n₂, days) ≡ fieldIn (codes " days ") 255 customers → Some (n₃, subzones) ≡ fieldIn (codes " subzones ") 255 days →
+    headerIn t ≡ atEnd subzones (header (record { customers = n₁; days = n₂; subzones = n₃ }))
+header-fields t customers days subzones n₁ n₂ n₃ e₁ e₂ e₃ = rw (sym e₁, sym e₂, sym e₃)

@@ -6,19 +6,26 @@
 --   composed      the file of a text, or the first fault
 --   filed         what a call answered, the file by its bytes
 --   Inverse       of a file's bytes: if it is accepted, what is composed of its listing is the file
+--   Restored      of a text and what was made of it: if the text is the listing of an accepted
+--                 file, then that file was made
+--   reasonWords, faultWords   a reason and a fault as a user reads them
 use mathlib.Core.Path.{_≡_}
 use mathlib.Core.Bool.{cond}
 use mathlib.Core.List.{List, [], _∷_, _++_}
-use Prim.Native.Nat.{ℕ, _+_}
+use Prim.Native.Nat.{ℕ, _+_, _<_}
+use lib.Chars.{codes}
 use lib.Dec.{eqb}
 use lib.ListN.{length}
 use Rattle.std.specs.Of.Vec.{vec-items}
+use Rattle.std.specs.shelf.Lists.{All}
 use Rattle.std.specs.declared.alloc.Global.{Global}
 use Rattle.std.specs.declared.option.Option.{Option}
 use Rattle.std.specs.declared.option.Option.the-variants.{Some, None}
 use Rattle.std.specs.declared.result.Result.{Result}
 use Rattle.std.specs.declared.result.Result.the-variants.{Ok, Err}
 use Rattle.std.specs.declared.vec.Vec.{Vec}
+use Rattle.std.specs.Written.{decimal}
+use Rattle.tariff.specs.Refusals.{words}
 use Rattle.tariff.specs.Limits.{mostFileBytes}
 use Rattle.tariff.specs.declared.refusal.Refusal.{Refusal}
 use Rattle.tariff.specs.declared.refusal.Refusal.the-variants.{RecordKind}
@@ -71,3 +78,13 @@ filed (Err fault) = Err fault
 
 abbrev pub Inverse : List ℕ → Type 0
 Inverse bytes = (items : List Item) → recordsOf bytes ≡ Ok items → composed (listing bytes) ≡ Ok bytes
+
+abbrev pub Restored : List ℕ → Result (List ℕ) Fault → Type 0
+Restored text made = (bytes : List ℕ) (items : List Item) → All (λ b. b < 256) bytes → recordsOf bytes ≡ Ok items → text ≡ listing bytes → made ≡ Ok bytes
+
+abbrev pub reasonWords : Reason → List ℕ
+reasonWords NotARecord = codes "not the line of a record, or a number is too large"
+reasonWords (Refused e) = words e
+
+abbrev pub faultWords : Fault → List ℕ
+faultWords f = codes "line " ++ (decimal (f .line) ++ (codes ": " ++ reasonWords (f .reason)))

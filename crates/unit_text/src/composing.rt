@@ -8,13 +8,15 @@ ghost use Rattle.std.specs.Vec.{made};
 ghost use Rattle.std.specs.declared.option.Option.the-variants.{None, Some};
 ghost use Rattle.std.specs.declared.result.Result.the-variants.{Ok, Err};
 ghost use Rattle.tariff.specs.Limits.{mostFileBytes};
-ghost use Rattle.unit_text.specs.Composing.{linesIn, composeFrom, composed, filed};
+ghost use Rattle.unit_text.specs.Composing.{linesIn, composeFrom, composed, filed, Restored, reasonWords, faultWords};
 use crate::parsing::parse_line;
 use std::alloc::AllocError;
 use std::alloc::Global;
+use std::fmt;
 use tariff::Refusal;
 use tariff::limits::MOST_FILE_BYTES;
 use tariff::refusal::RefusalDebug;
+use tariff::refusal::RefusalDisplay;
 use tariff::refusal::RefusalPartialEq;
 use unit_file::Writer;
 
@@ -111,6 +113,7 @@ fn compose_into(text: &[u8], out: &mut [u8]) -> Result<usize, Fault>
 // The file of a text, or its first fault.
 pub fn compose(heap: Global, text: &[u8]) -> Result<Result<Vec<u8>, Fault>, AllocError>
     ensures file { λ r. ⌜ made r (λ answer. filed answer ≡ composed (now (text .entry))) ⌝ }
+    ensures restored { λ r. ⌜ made r (λ answer. Restored (now (text .entry)) (filed answer)) ⌝ }
 {
     let mut buffer = [0; MOST_FILE_BYTES];
     match compose_into(text, &mut buffer) {
@@ -119,5 +122,27 @@ pub fn compose(heap: Global, text: &[u8]) -> Result<Result<Vec<u8>, Fault>, Allo
             Ok(Ok(file))
         }
         Err(fault) => Ok(Err(fault)),
+    }
+}
+
+pub impl fmt::Display for Reason as ReasonDisplay {
+    ghost shown = { λ r. Some (reasonWords r) };
+
+    fn fmt<W: fmt::Write>(&self, f: &mut fmt::Formatter<W>) -> fmt::Result {
+        match *self {
+            Reason::NotARecord => f.write_str("not the line of a record, or a number is too large"),
+            Reason::Refused(refusal) => write!(f, "{refusal}"),
+        }
+    }
+}
+
+// The fault as a user reads it: the line and the reason.
+pub impl fmt::Display for Fault as FaultDisplay {
+    ghost shown = { λ f. Some (faultWords f) };
+
+    fn fmt<W: fmt::Write>(&self, f: &mut fmt::Formatter<W>) -> fmt::Result {
+        let line = self.line;
+        let reason = self.reason;
+        write!(f, "line {line}: {reason}")
     }
 }

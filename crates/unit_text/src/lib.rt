@@ -6,5 +6,6 @@ mod parsing;
 
 pub use composing::Fault;
 pub use composing::Reason;
+pub use composing::compose;
 pub use listing::Listing;
 pub use listing::list;

@@ -5,8 +5,10 @@ ghost use Rattle.std.specs.Of.String.{string-bytes};
 ghost use Rattle.std.specs.Of.Vec.{vec-items};
 ghost use Rattle.std.specs.Vec.{made};
 ghost use Rattle.std.specs.declared.option.Option.the-variants.{None, Some};
+ghost use Rattle.unit_file.specs.Laws.{Rewritten};
 ghost use Rattle.unit_file.specs.Reading.{contentsOf};
 ghost use Rattle.unit_file.specs.Records.{itemOf};
+ghost use Rattle.unit_text.specs.Composing.{Inverse};
 ghost use Rattle.unit_text.specs.Lines.{headerText, unitText, costText, textOf, lineOf, linesOf, faultLine, listing};
 use std::alloc::AllocError;
 use std::alloc::Global;
@@ -137,6 +139,8 @@ fn push_records(
 pub fn list(heap: Global, bytes: &[u8]) -> Result<Listing, AllocError>
     ensures text { λ r. ⌜ made r (λ l. vec-items (l .text) ≡ listing (now (bytes .entry))) ⌝ }
     ensures refusal { λ r. ⌜ made r (λ l. l .refusal ≡ contentsOf (now (bytes .entry)) .refusal) ⌝ }
+    ensures rewritten { λ _. ⌜ Rewritten (now (bytes .entry)) ⌝ }
+    ensures inverse { λ _. ⌜ Inverse (now (bytes .entry)) ⌝ }
 {
     let mut text = Vec::new(heap);
     let refusal = push_records(&mut text, heap, bytes)?;
