@@ -1,7 +1,8 @@
 -- What the calls of the code give back, as answers of the machine.
 --   told, toldPass, toldRow   an answer without a value, with a pass, with a row number
 --   frozen                    a freeze: the frozen book, or the refusal with the open book
---   toldBooks                 the book that opening gives
+--   toldBook                  the book that opening gives
+--   toldFigures               a bill: what it answers and what it leaves in the columns, or the refusal
 use mathlib.Core.List.{List}
 use Prim.Native.Nat.{ℕ}
 use Rattle.std.specs.declared.result.Result.{Result}
@@ -9,8 +10,9 @@ use Rattle.std.specs.declared.result.Result.the-variants.{Ok, Err}
 use Rattle.tariff.specs.declared.refusal.Refusal.{Refusal}
 use Rattle.tariff.specs.declared.rows.UnitRow.{UnitRow}
 use Rattle.tariff.specs.declared.rows.CostRow.{CostRow}
+use Rattle.bill_rules.specs.declared.Remainders.{Remainders}
 use Rattle.book_rules.specs.Machine.{Book}
-use Rattle.book_rules.specs.Run.{Answer, accepted, gave, row, froze, stayedOpen, refused, Outcome, opened, closed}
+use Rattle.book_rules.specs.Run.{Answer, accepted, gave, row, froze, stayedOpen, billed, refused, Outcome, opened, closed}
 use Rattle.book.specs.declared.states.FrozenBook.{FrozenBook}
 use Rattle.book.specs.declared.states.OpenBook.{OpenBook}
 use Rattle.book.specs.declared.states.Pass.{Pass as Token}
@@ -35,3 +37,8 @@ frozen units costs marks (Err b) = record { state = opened (openBook (b .0)) uni
 abbrev pub toldBook : Result OpenBook Refusal → Result Book Refusal
 toldBook (Ok b) = Ok (openBook b)
 toldBook (Err e) = Err e
+
+abbrev pub toldFigures : Result Remainders Refusal → List ℕ → List ℕ → List ℕ → Answer
+toldFigures (Ok r) charges stations credits =
+    billed (record { charges = charges; stations = stations; credits = credits; short = r .short; over = r .over; stranded = r .stranded })
+toldFigures (Err e) charges stations credits = refused e

@@ -1,5 +1,6 @@
 // A book of one billing period: contributors post into it through passes while it is open, and it
 // bills while it is frozen. Rows and marks are the caller's tables at each call.
+mod bill;
 mod contributors;
 pub mod load;
 mod marks;

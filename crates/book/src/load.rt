@@ -89,7 +89,7 @@ impl Numbers {
     ) -> Option<Refusal>
         ensures { λ r. ⌜ ((unitTable : List UnitRow) (costTable : List CostRow) → length unitTable ≡ units → length costTable ≡ costs → r ≡ loadRefusal (opened (numbersOf (now (self .entry))) unitTable costTable (now (marks .entry))) (passOf (now (pass .entry)))) ⌝ }
     {
-        if units < self.units || costs < self.costs || marks.len() != CONTRIBUTORS {
+        if self.outnumber(units, costs) || marks.len() != CONTRIBUTORS {
             return Some(Refusal::TableUnfit);
         }
         if !self.accepts(marks, pass) {

@@ -42,6 +42,13 @@ impl Numbers {
 }
 
 impl Pass {
+    // The number of the pass, which a journal names it by.
+    pub fn number(&self) -> u32
+        ensures { λ r. ⌜ r ≡ passOf (now (self .entry)) .mark ⌝ }
+    {
+        self.mark
+    }
+
     // Ends the pass, and answers whose it was.
     pub(crate) fn spend(self) -> usize
         ensures { λ r. ⌜ r ≡ self .contributor ⌝ }

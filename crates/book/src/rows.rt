@@ -1,7 +1,9 @@
 // Rows come in through a valid pass: post, add cost, correct.
 ghost use mathlib.Core.Path.{_≡_};
+ghost use mathlib.Core.Bool.{_||_};
 ghost use mathlib.Core.List.{List};
 ghost use Prim.Native.Nat.{ℕ, _<_};
+ghost use lib.Dec.{ltb};
 ghost use lib.ListN.{length};
 ghost use Rattle.std.specs.Options.{Cases as BySome};
 ghost use Rattle.tariff.specs.declared.rows.UnitRow.{UnitRow};
@@ -31,6 +33,13 @@ fn corrected_total(rows: &[UnitRow], at: usize, quantity: u32) -> u128
 }
 
 impl Numbers {
+    // Whether the book counts more rows than a table has.
+    pub(crate) fn outnumber(&self, units: usize, costs: usize) -> bool
+        ensures { λ r. ⌜ r ≡ (ltb units (now (self .entry) .units) || ltb costs (now (self .entry) .costs)) ⌝ }
+    {
+        units < self.units || costs < self.costs
+    }
+
     fn post_refusal(
         &self,
         units: &[UnitRow],
