@@ -16,6 +16,7 @@ use unit_text::composing::FaultDisplay;
 pub fn printed(heap: Global, text: &[u8]) -> Result<Result<Vec<u8>, Fault>, AllocError>
     ensures file { λ r. ⌜ made r (λ answer. filed answer ≡ composed (now (text .entry))) ⌝ }
     ensures restored { λ r. ⌜ made r (λ answer. Restored (now (text .entry)) (filed answer)) ⌝ }
+    ensures read_back { λ _. ⌜ ReadBack ⌝ }
 {
     compose(heap, text)
 }

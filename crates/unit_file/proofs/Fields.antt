@@ -1,24 +1,19 @@
 -- The fields of a record and their bytes: each gives the other back.
 use mathlib.Core.Path.{_≡_, refl, sym, ap, _∙_}
-use mathlib.Core.Bool.{Bool, true, false, cond, not}
-use mathlib.Core.Logic.{_⊎_, inl, inr, ⊎-elim}
+use mathlib.Core.Bool.{true, false}
 use mathlib.Core.List.{List, [], _∷_, _++_}
 use Prim.Native.Nat.{ℕ, zero, suc, _+_, _*_, _/_, _%_, _≤_, _<_, _-_}
 use native.Mathlib.Omega.{arith}
-use native.Mathlib.Nat.{div-add-mod', add-zero, add-suc}
-use lib.Dec.{eqb, ltb, leb}
-use lib.ListN.{length, getD, take, drop}
+use native.Mathlib.Nat.{add-zero}
+use lib.ListN.{length, getD, drop}
 use lib.Seq.{drop-cons}
-use Rattle.std.proofs.shelf.Tests.{cases-eq, eqb-true, ne-eqb, eq-eqb}
+use Rattle.std.proofs.shelf.Tests.{eqb-true}
 use Rattle.std.proofs.shelf.Elements.{all-getD}
 use Rattle.std.proofs.shelf.Lists.{drop-all}
 use Rattle.std.proofs.shelf.Ways.{tells}
 use Rattle.std.specs.shelf.Lists.{All}
-use Rattle.tariff.specs.declared.rows.Sizes.{Sizes}
-use Rattle.tariff.specs.declared.rows.UnitRow.{UnitRow}
-use Rattle.tariff.specs.declared.rows.CostRow.{CostRow}
-use Rattle.unit_file.specs.Records.{Item, header, unit, cost, note, kindOf, fieldsOf, twoBytes, fourBytes}
-use Rattle.unit_file.specs.Reading.{twoIn, fourIn, sizesIn, unitIn, costIn, itemBy, fitsKind, badKind}
+use Rattle.unit_file.specs.Records.{Item, header, unit, cost, note, kindOf, fieldsOf, fourBytes}
+use Rattle.unit_file.specs.Reading.{sizesIn, unitIn, costIn, itemBy, fitsKind, badKind}
 
 -- numbers and their bytes
 pub two-back : (n : ℕ) → n / 256 * 256 + n % 256 ≡ n

@@ -2,19 +2,19 @@
 use mathlib.Core.Path.{_≡_, refl, sym, ap, subst, _∙_}
 use mathlib.Core.Bool.{Bool, true, false, cond, _||_}
 use mathlib.Core.List.{List, [], _∷_, _++_, append-assoc}
-use Prim.Native.Nat.{ℕ, zero, suc, _+_, _≤_, _<_, _-_}
+use Prim.Native.Nat.{ℕ, _+_, _≤_, _<_, _-_}
 use native.Mathlib.Omega.{arith}
 use native.Mathlib.Nat.{add-zero, add-assoc}
 use borrow.Rule.Slice.PartMut.{putMid}
-use lib.Dec.{eqb, ltb, leb}
+use lib.Dec.{ltb}
 use lib.ListN.{length, take, drop}
-use Rattle.std.proofs.shelf.Lists.{drop-drop, drop-at, take-at, length-take-le, length-append, joined-more, drop-all, take-all, append-nil}
+use Rattle.std.proofs.shelf.Lists.{drop-drop, drop-at, take-at, length-take-le, length-append, joined-more}
 use Rattle.std.proofs.shelf.Tests.{or-parts, ltb-false}
 use Rattle.std.specs.Joined.{joined}
 use Rattle.std.specs.declared.option.Option.{Option}
 use Rattle.std.specs.declared.option.Option.the-variants.{Some, None}
 use Rattle.tariff.specs.Limits.{mostFileBytes}
-use Rattle.tariff.specs.Refusals.{firstOf, answer, unless}
+use Rattle.tariff.specs.Refusals.{answer, unless}
 use Rattle.tariff.specs.declared.refusal.Refusal.{Refusal}
 use Rattle.tariff.specs.declared.refusal.Refusal.the-variants.{NoUnitFile, RecordLength, RecordKind, BufferTooShort}
 use Rattle.unit_file.specs.Records.{Item, bytesOf, fileOf}
@@ -22,7 +22,7 @@ use Rattle.unit_file.specs.Reading.{misplaced, recordsOf}
 use Rattle.std.specs.declared.result.Result.{Result}
 use Rattle.std.specs.declared.result.Result.the-variants.{Ok}
 use Rattle.unit_file.proofs.RoundTrip.{read-back}
-use Rattle.unit_file.specs.Writing.{badNoteLength, badNoteBytes, putRefusal, pasted, LawfulFrom, Lawful, WrittenAs}
+use Rattle.unit_file.specs.Writing.{badNoteLength, badNoteBytes, putRefusal, pasted, LawfulFrom, WrittenAs}
 
 -- a part that was written over, as the checker has it
 pub put-pasted : (out bytes part : List ℕ) (place size : ℕ) → part ≡ bytes → size ≡ length bytes → putMid place size out part ≡ pasted out place bytes

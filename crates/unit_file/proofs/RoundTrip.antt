@@ -1,16 +1,16 @@
 -- The two laws: an accepted file is rewritten as it was, and a lawful file reads back as it was
 -- written.
 use mathlib.Core.Path.{_≡_, refl, sym, ap, subst, _∙_}
-use mathlib.Core.Bool.{Bool, true, false, cond, not, _||_}
+use mathlib.Core.Bool.{Bool, true, false, cond}
 use mathlib.Core.List.{List, [], _∷_, _++_, append-assoc}
-use Prim.Native.Nat.{ℕ, zero, suc, _+_, _*_, _/_, _%_, _≤_, _<_, _-_}
+use Prim.Native.Nat.{ℕ, zero, suc, _+_, _≤_, _<_, _-_}
 use native.Mathlib.Omega.{arith}
 use lib.Dec.{eqb, ltb, leb}
-use lib.ListN.{length, getD, take, drop}
+use lib.ListN.{length, drop}
 use lib.Seq.{drop-cons}
 use Rattle.std.proofs.shelf.Elements.{all-drop}
-use Rattle.std.proofs.shelf.Lists.{drop-all, drop-drop, length-drop, length-append, length-take-le, drop-at, take-at, append-nil}
-use Rattle.std.proofs.shelf.Tests.{or-parts, or-from, ltb-false, eqb-false, eqb-true, eq-eqb, lt-leb, le-leb, le-ltb, ne-eqb, not-false, not-from-true}
+use Rattle.std.proofs.shelf.Lists.{drop-all, drop-drop, length-drop, length-append, length-take-le, drop-at, take-at}
+use Rattle.std.proofs.shelf.Tests.{or-from, lt-leb, le-ltb, ne-eqb, not-from-true}
 use Rattle.std.proofs.shelf.Ways.{tells}
 use Rattle.std.specs.Joined.{joined}
 use Rattle.std.specs.shelf.Lists.{All}
@@ -23,11 +23,11 @@ use Rattle.tariff.specs.Refusals.{answer, firstOf}
 use Rattle.tariff.specs.declared.refusal.Refusal.{Refusal}
 use Rattle.tariff.specs.declared.refusal.Refusal.the-variants.{NoUnitFile, RecordLength, RecordKind}
 use Rattle.unit_file.specs.Records.{Item, header, unit, cost, note, kindOf, fieldsOf, bytesOf, fileOf}
-use Rattle.unit_file.specs.Reading.{lengthIn, kindIn, fieldsIn, itemBy, itemIn, fitsKind, badLength, badKind, recordIn, some, after, recordAt, misplaced, inOrder, orderedAt, placeInOrder, openRefusal, Contents, goOn, contentsFrom, contentsOf, begun, recordsOf}
+use Rattle.unit_file.specs.Reading.{lengthIn, kindIn, fieldsIn, itemBy, itemIn, fitsKind, badLength, badKind, recordIn, some, after, recordAt, misplaced, inOrder, orderedAt, placeInOrder, openRefusal, Contents, goOn, contentsFrom, begun}
 use Rattle.unit_file.specs.Writing.{badNoteLength, badNoteBytes, LawfulFrom, Lawful}
 use Rattle.unit_file.specs.Laws.{Rewritten, ReadBack}
 use Rattle.unit_file.proofs.Fields.{two-back, item-back}
-use Rattle.unit_file.proofs.Walk.{Answer, in-order, Read, was-read, was-end, Whole, is-whole, advances, bytes-back, past-end, opened}
+use Rattle.unit_file.proofs.Walk.{Answer, in-order, was-read, was-end, is-whole, advances, bytes-back, past-end, opened}
 
 impossible : {X : Type 0} → _≡_ {A = ℕ} 0 1 → X
 impossible e = absurd (omega arith)

@@ -1,30 +1,28 @@
 -- A walk through a file, record by record.
 use mathlib.Core.Path.{_≡_, refl, sym, ap, _∙_}
-use mathlib.Core.Bool.{Bool, true, false, cond, not, _||_}
-use mathlib.Core.Logic.{_⊎_, inl, inr}
-use mathlib.Core.List.{List, [], _∷_, _++_, append-assoc}
-use Prim.Native.Nat.{ℕ, zero, suc, _+_, _*_, _/_, _%_, _≤_, _<_, _-_}
+use mathlib.Core.Bool.{Bool, true, false, cond}
+use mathlib.Core.List.{List, _++_}
+use Prim.Native.Nat.{ℕ, zero, suc, _+_, _≤_, _<_, _-_}
 use native.Mathlib.Omega.{arith}
 use lib.Dec.{eqb, ltb, leb}
-use lib.ListN.{length, getD, take, drop}
+use lib.ListN.{length, getD, drop}
 use Rattle.std.proofs.shelf.Elements.{all-getD, all-take, all-drop}
-use Rattle.std.proofs.shelf.Lists.{drop-all, drop-drop, take-append-drop, length-take, length-drop, length-append, drop-at, take-at, length-take-le}
-use Rattle.std.proofs.shelf.Tests.{or-parts, ltb-false, eqb-false, leb-true, leb-false, le-leb, lt-leb, le-ltb, ne-eqb, not-false}
+use Rattle.std.proofs.shelf.Lists.{drop-drop, take-append-drop, length-drop, length-take-le}
+use Rattle.std.proofs.shelf.Tests.{or-parts, ltb-false, eqb-false, leb-true, leb-false, le-leb, ne-eqb, not-false}
 use Rattle.std.proofs.shelf.Ways.{tells}
-use Rattle.std.specs.Joined.{joined}
 use Rattle.std.specs.shelf.Lists.{All}
 use Rattle.std.specs.declared.option.Option.{Option}
 use Rattle.std.specs.declared.option.Option.the-variants.{Some, None}
 use Rattle.std.specs.declared.result.Result.{Result}
 use Rattle.std.specs.declared.result.Result.the-variants.{Ok, Err}
 use Rattle.tariff.specs.Limits.{mostFileBytes}
-use Rattle.tariff.specs.Refusals.{answer, firstOf}
+use Rattle.tariff.specs.Refusals.{answer}
 use Rattle.tariff.specs.declared.refusal.Refusal.{Refusal}
 use Rattle.tariff.specs.declared.refusal.Refusal.the-variants.{RecordLength, RecordKind}
 use Rattle.unit_file.specs.declared.record.Record.{Record}
-use Rattle.unit_file.specs.Records.{Item, header, unit, cost, note, kindOf, fieldsOf, bytesOf, itemOf}
-use Rattle.unit_file.specs.Reading.{lengthIn, kindIn, fieldsIn, itemBy, itemIn, fitsKind, badLength, badKind, recordIn, some, after, recordAt, misplaced, inOrder, orderedAt, placeInOrder, openRefusal, Contents, goOn, begun, contentsFrom, contentsOf, recordsOf, counted, said}
-use Rattle.unit_file.proofs.Fields.{drop-firsts, high-byte, low-byte, two-back, item-back, fields-back}
+use Rattle.unit_file.specs.Records.{Item, bytesOf, itemOf}
+use Rattle.unit_file.specs.Reading.{lengthIn, kindIn, fieldsIn, itemIn, fitsKind, badLength, badKind, recordIn, some, after, recordAt, misplaced, inOrder, orderedAt, placeInOrder, openRefusal, Contents, goOn, begun, contentsFrom, contentsOf, recordsOf, counted, said}
+use Rattle.unit_file.proofs.Fields.{drop-firsts, high-byte, low-byte, fields-back}
 
 -- what is known where a record was read
 pub record Read (bs : List ℕ) (place : ℕ) (item : Item) : Type 0 where

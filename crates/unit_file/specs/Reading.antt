@@ -3,24 +3,28 @@
 --   lengthIn              the length that a record states: how many bytes follow its first two
 --   kindIn, fieldsIn      its kind byte, and the bytes after that
 --   sizesIn, unitIn, costIn   what fields say by their kind
---   itemIn                what the record says
+--   itemBy, itemIn        what the fields of a kind say, and so what a record says
 --   fitsKind              whether a length is one of a kind; an unknown kind has no length of its own
 --   badLength             cut short, of length 0, or not of its kind's length
 --   badKind               of an unknown kind, or a note with a byte outside 32 to 126
 --   recordRefusal         why the record is refused: all of its length, and then its kind
 --   recordIn              the record, or its refusal
+--   some, after           an answer that is there; the place after one that is, else the same place
 --   recordAt, nextPlace   what the reader answers at a place of a file, and where it then stands
 --   headed, misplaced     the record at place 1 is to be the header, and no other is to be one
---   orderedAt, placeInOrder   the same where the header's order is looked at too
+--   inOrder               an answer, refused where the record is misplaced
+--   orderedAt, placeInOrder   recordAt and nextPlace where the header's order is looked at too
+--   openRefusal           why bytes are no unit file
 --   Contents              what a reading of a whole file gives: the records up to the first
 --                         refusal, and that refusal if there is one
+--   goOn                  one answer, and the contents behind it
 --   contentsFrom          the contents from a place on, of at most so many records
---   contentsOf            the contents of a file
+--   begun, contentsOf     the contents of a file, none if it is no unit file
 --   recordsOf             a file's records, or the first refusal
 --   counted               how many records, or the refusal
 --   oneSaid, said         what a call answered, each record by what it says
 use mathlib.Core.Bool.{Bool, true, false, cond, not, _&&_, _||_}
-use mathlib.Core.List.{List, [], _∷_, _++_}
+use mathlib.Core.List.{List, [], _∷_}
 use Prim.Native.Nat.{ℕ, zero, suc, _+_, _-_, _*_}
 use lib.Dec.{eqb, ltb, leb}
 use lib.ListN.{length, getD, take, drop}
@@ -30,7 +34,7 @@ use Rattle.std.specs.declared.option.Option.the-variants.{Some, None}
 use Rattle.std.specs.declared.result.Result.{Result}
 use Rattle.std.specs.declared.result.Result.the-variants.{Ok, Err}
 use Rattle.tariff.specs.Limits.{mostFileBytes, mostNoteBytes}
-use Rattle.tariff.specs.Refusals.{firstOf, answer, unless}
+use Rattle.tariff.specs.Refusals.{firstOf, answer}
 use Rattle.tariff.specs.declared.refusal.Refusal.{Refusal}
 use Rattle.tariff.specs.declared.refusal.Refusal.the-variants.{NoUnitFile, RecordLength, RecordKind}
 use Rattle.tariff.specs.declared.rows.Sizes.{Sizes}
@@ -91,7 +95,6 @@ some (Err e) = Err e
 abbrev pub recordAt : List ℕ → ℕ → Result (Option Item) Refusal
 recordAt bs place = cond (leb (length bs) place) (Ok None) (some (recordIn (drop place bs) place))
 
--- the place after a record, unless there was none
 abbrev pub after : {X : Type 0} → Result (Option X) Refusal → ℕ → ℕ → ℕ
 after (Err e) place next = place
 after (Ok None) place next = place
@@ -120,7 +123,6 @@ placeInOrder bs place = after (orderedAt bs place) place (place + (2 + lengthIn 
 abbrev pub openRefusal : List ℕ → Option Refusal
 openRefusal bs = firstOf ((eqb (length bs) 0 || (ltb mostFileBytes (length bs) || not (eqb (getD bs 0 0) 1)), NoUnitFile) ∷ [])
 
--- a record and the contents behind it
 pub record Contents : Type 0 where
   pub items : List Item
   pub refusal : Option Refusal
@@ -148,7 +150,6 @@ abbrev pub counted : Result (List Item) Refusal → Result ℕ Refusal
 counted (Ok items) = Ok (length items)
 counted (Err e) = Err e
 
--- what a call answered, with each record by what it says
 abbrev pub oneSaid : Result Record Refusal → Result Item Refusal
 oneSaid (Ok r) = Ok (itemOf r)
 oneSaid (Err e) = Err e

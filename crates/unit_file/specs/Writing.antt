@@ -8,13 +8,13 @@
 --   Lawful                the records of a lawful file: a header and then none, and each well made
 --   WrittenAs             a writer at a place has put these records into a buffer, and no others
 use mathlib.Core.Path.{_≡_}
-use mathlib.Core.Bool.{Bool, true, false, _||_}
+use mathlib.Core.Bool.{Bool, false, _||_}
 use mathlib.Core.List.{List, [], _∷_, _++_}
 use Prim.Native.Nat.{ℕ, _+_, _<_, _≤_}
 use lib.Dec.{eqb, ltb, leb}
 use lib.ListN.{length, take, drop}
 use Rattle.std.specs.declared.option.Option.{Option}
-use Rattle.std.specs.declared.option.Option.the-variants.{Some, None}
+use Rattle.std.specs.declared.option.Option.the-variants.{Some}
 use Rattle.tariff.specs.Limits.{mostFileBytes, mostNoteBytes}
 use Rattle.tariff.specs.Refusals.{firstOf}
 use Rattle.tariff.specs.declared.refusal.Refusal.{Refusal}

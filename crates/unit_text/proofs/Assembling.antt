@@ -1,10 +1,9 @@
 -- A file that is made of lines, line by line.
-use mathlib.Core.Path.{_≡_, refl, sym, ap, subst, _∙_}
-use mathlib.Core.Bool.{Bool, true, false, cond}
+use mathlib.Core.Path.{_≡_, refl, sym, ap, _∙_}
+use mathlib.Core.Bool.{Bool, cond}
 use mathlib.Core.List.{List, [], _∷_, _++_}
 use Prim.Native.Nat.{ℕ, zero, suc, _+_, _-_, _≤_, _<_}
 use native.Mathlib.Omega.{arith}
-use lib.Dec.{eqb}
 use lib.ListN.{length, getD, take, drop}
 use Rattle.std.proofs.shelf.Lists.{length-take-le, length-drop, drop-all, take-all}
 use Rattle.std.proofs.shelf.Tests.{eq-eqb, ne-eqb}
@@ -17,10 +16,9 @@ use Rattle.tariff.specs.Refusals.{answer, unless}
 use Rattle.tariff.specs.declared.refusal.Refusal.{Refusal}
 use Rattle.unit_file.specs.Records.{Item, bytesOf}
 use Rattle.unit_file.specs.Writing.{putRefusal, finishRefusal, pasted, WrittenAs}
-use Rattle.unit_file.proofs.Pasting.{Room, has-room, take-pasted}
-use Rattle.unit_text.specs.declared.composing.Fault.{Fault}
+use Rattle.unit_file.proofs.Pasting.{has-room, take-pasted}
 use Rattle.unit_text.specs.declared.composing.Reason.{Reason}
-use Rattle.unit_text.specs.declared.composing.Reason.the-variants.{NotARecord, Refused}
+use Rattle.unit_text.specs.declared.composing.Reason.the-variants.{Refused}
 use Rattle.unit_text.specs.Parsing.{itemIn}
 use Rattle.unit_text.specs.Composing.{longer, linesIn, refusedOr, addedBy, goOn, ended, composeFrom, composed}
 

@@ -1,10 +1,10 @@
 -- What is composed of a listing is the file that was listed.
 use mathlib.Core.Path.{_≡_, refl, sym, ap, subst, _∙_}
-use mathlib.Core.Bool.{Bool, true, false, cond, not, _&&_, _||_}
+use mathlib.Core.Bool.{Bool, true, false, cond, not}
 use mathlib.Core.List.{List, [], _∷_, _++_, append-assoc}
-use Prim.Native.Nat.{ℕ, zero, suc, _+_, _-_, _≤_, _<_}
+use Prim.Native.Nat.{ℕ, _+_, _-_, _≤_, _<_}
 use native.Mathlib.Omega.{arith}
-use lib.Dec.{eqb, ltb, leb}
+use lib.Dec.{eqb}
 use lib.ListN.{length, getD}
 use mir.Syntax.{w8}
 use mir.Val.{Fits}
@@ -16,19 +16,19 @@ use Rattle.std.specs.shelf.Lists.{All}
 use Rattle.std.specs.declared.option.Option.{Option}
 use Rattle.std.specs.declared.option.Option.the-variants.{Some, None}
 use Rattle.std.specs.declared.result.Result.{Result}
-use Rattle.std.specs.declared.result.Result.the-variants.{Ok, Err}
+use Rattle.std.specs.declared.result.Result.the-variants.{Ok}
 use Rattle.tariff.specs.Limits.{mostFileBytes}
 use Rattle.tariff.specs.Refusals.{answer}
 use Rattle.tariff.specs.declared.refusal.Refusal.{Refusal}
-use Rattle.tariff.specs.declared.refusal.Refusal.the-variants.{NoUnitFile, RecordLength, RecordKind, BufferTooShort}
+use Rattle.tariff.specs.declared.refusal.Refusal.the-variants.{RecordKind}
 use Rattle.unit_file.specs.Records.{Item, bytesOf, fileOf}
 use Rattle.unit_file.specs.Laws.{Rewritten}
-use Rattle.unit_file.specs.Reading.{misplaced, Contents, contentsOf, recordsOf}
-use Rattle.unit_file.specs.Writing.{badNoteLength, badNoteBytes, putRefusal, finishRefusal, LawfulFrom, Lawful}
+use Rattle.unit_file.specs.Reading.{misplaced, Contents, contentsOf}
+use Rattle.unit_file.specs.Writing.{badNoteLength, badNoteBytes, putRefusal, LawfulFrom}
 use Rattle.unit_file.proofs.RoundTrip.{rewritten}
 use Rattle.unit_text.specs.declared.composing.Fault.{Fault}
 use Rattle.unit_text.specs.declared.composing.Reason.{Reason}
-use Rattle.unit_text.specs.Lines.{textOf, lineOf, linesOf, faultLine, listed, listing}
+use Rattle.unit_text.specs.Lines.{textOf, linesOf, faultLine, listed}
 use Rattle.unit_text.specs.Parsing.{itemIn}
 use Rattle.unit_text.specs.Composing.{longer, linesIn, refusedOr, addedBy, goOn, ended, composeFrom, composed, Inverse, Restored}
 use Rattle.unit_text.proofs.LinesBack.{Widths, widths, plain, text-plain, item-back}

@@ -2,12 +2,11 @@
 use mathlib.Core.Path.{_≡_, refl, sym, ap, _∙_}
 use mathlib.Core.Bool.{Bool, true, false, cond}
 use mathlib.Core.List.{List, [], _∷_, _++_, append-assoc}
-use Prim.Native.Nat.{ℕ, zero, suc, _+_, _*_, _-_, _≤_, _<_}
+use Prim.Native.Nat.{ℕ, _+_, _*_, _-_, _≤_, _<_}
 use native.Mathlib.Omega.{arith}
-use lib.Dec.{eqb, ltb, leb}
+use lib.Dec.{eqb, ltb}
 use lib.ListN.{length, getD, take, drop}
 use Rattle.std.proofs.shelf.Lists.{drop-more, drop-all, take-rest}
-use Rattle.std.proofs.shelf.Tests.{eq-eqb, ne-eqb, lt-ltb, le-ltb}
 use Rattle.std.specs.Results.{isOk}
 use Rattle.std.specs.Vec.{made}
 use Rattle.std.specs.declared.option.Option.{Option}
@@ -15,10 +14,7 @@ use Rattle.std.specs.declared.option.Option.the-variants.{Some, None}
 use Rattle.std.specs.declared.result.Result.{Result}
 use Rattle.std.specs.declared.result.Result.the-variants.{Ok, Err}
 use lib.Chars.{codes}
-use Rattle.tariff.specs.declared.rows.UnitRow.{UnitRow}
-use Rattle.tariff.specs.declared.rows.CostRow.{CostRow}
-use Rattle.tariff.specs.declared.rows.Sizes.{Sizes}
-use Rattle.unit_file.specs.Records.{Item, header, unit, cost}
+use Rattle.unit_file.specs.Records.{header, unit, cost}
 use Rattle.unit_text.specs.Parsing.{afterWord, isDigit, onDigits, numberIn, fieldIn, atEnd, headerIn, unitIn, costIn}
 
 -- two pieces that were added one behind the other

@@ -1,6 +1,7 @@
 -- Making a unit file of a text.
---   linesIn       the lines of a text; the last may lack its line end
---   addedBy       the bytes that a line adds to a file, or the reason why it adds none
+--   longer, linesIn   a byte before lines, and the lines of a text; the last may lack its line end
+--   refusedOr, addedBy   the bytes that a line adds to a file, or the reason why it adds none
+--   goOn          the next line, unless this one is at fault
 --   ended         the file as its lines end; a missing header is told at line 1
 --   composeFrom   the file of lines behind what is written already, the next line's number given
 --   composed      the file of a text, or the first fault
@@ -28,7 +29,6 @@ use Rattle.std.specs.Written.{decimal}
 use Rattle.tariff.specs.Refusals.{words}
 use Rattle.tariff.specs.Limits.{mostFileBytes}
 use Rattle.tariff.specs.declared.refusal.Refusal.{Refusal}
-use Rattle.tariff.specs.declared.refusal.Refusal.the-variants.{RecordKind}
 use Rattle.unit_file.specs.Reading.{recordsOf}
 use Rattle.unit_file.specs.Records.{Item, bytesOf}
 use Rattle.unit_file.specs.Writing.{putRefusal, finishRefusal}
@@ -38,7 +38,6 @@ use Rattle.unit_text.specs.declared.composing.Reason.the-variants.{NotARecord,
 use Rattle.unit_text.specs.Lines.{listing}
 use Rattle.unit_text.specs.Parsing.{itemIn}
 
--- a byte before the lines behind it
 abbrev pub longer : ℕ → List (List ℕ) → List (List ℕ)
 longer b [] = (b ∷ []) ∷ []
 longer b (line ∷ lines) = (b ∷ line) ∷ lines
@@ -47,7 +46,6 @@ abbrev pub linesIn : List ℕ → List (List ℕ)
 linesIn [] = []
 linesIn (b ∷ bs) = cond (eqb b 10) ([] ∷ linesIn bs) (longer b (linesIn bs))
 
--- what a line adds to a file, or the reason why not
 abbrev pub refusedOr : Option Refusal → List ℕ → Result (List ℕ) Reason
 refusedOr None bytes = Ok bytes
 refusedOr (Some e) bytes = Err (Refused e)
@@ -71,7 +69,6 @@ composeFrom line file (text ∷ texts) = goOn line (addedBy file (itemIn text)) 
 abbrev pub composed : List ℕ → Result (List ℕ) Fault
 composed text = composeFrom 1 (1 ∷ []) (linesIn text)
 
--- what a call answered, the file by its bytes
 abbrev pub filed : Result (Vec ℕ Global) Fault → Result (List ℕ) Fault
 filed (Ok file) = Ok (vec-items file)
 filed (Err fault) = Err fault

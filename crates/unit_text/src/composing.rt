@@ -1,14 +1,15 @@
 // A unit file from its text form.
 ghost use mathlib.Core.Path.{_≡_};
-ghost use mathlib.Core.List.{List, [], _∷_, _++_};
+ghost use mathlib.Core.List.{List, _∷_};
 ghost use Prim.Native.Nat.{ℕ, _+_, _-_, _<_, _≤_};
 ghost use lib.ListN.{length, getD, take, drop};
 ghost use Rattle.std.specs.Results.{Cases};
 ghost use Rattle.std.specs.Vec.{made};
-ghost use Rattle.std.specs.declared.option.Option.the-variants.{None, Some};
+ghost use Rattle.std.specs.declared.option.Option.the-variants.{Some};
 ghost use Rattle.std.specs.declared.result.Result.the-variants.{Ok, Err};
 ghost use Rattle.tariff.specs.Limits.{mostFileBytes};
-ghost use Rattle.unit_text.specs.Composing.{linesIn, composeFrom, composed, filed, Restored, reasonWords, faultWords};
+ghost use Rattle.unit_file.specs.Laws.{ReadBack};
+ghost use Rattle.unit_text.specs.Composing.{composeFrom, composed, filed, Restored, reasonWords, faultWords};
 use crate::parsing::parse_line;
 use std::alloc::AllocError;
 use std::alloc::Global;
@@ -114,6 +115,7 @@ fn compose_into(text: &[u8], out: &mut [u8]) -> Result<usize, Fault>
 pub fn compose(heap: Global, text: &[u8]) -> Result<Result<Vec<u8>, Fault>, AllocError>
     ensures file { λ r. ⌜ made r (λ answer. filed answer ≡ composed (now (text .entry))) ⌝ }
     ensures restored { λ r. ⌜ made r (λ answer. Restored (now (text .entry)) (filed answer)) ⌝ }
+    ensures read_back { λ _. ⌜ ReadBack ⌝ }
 {
     let mut buffer = [0; MOST_FILE_BYTES];
     match compose_into(text, &mut buffer) {

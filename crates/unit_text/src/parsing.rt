@@ -1,14 +1,10 @@
 // Reads one line of the text form.
 ghost use mathlib.Core.Path.{_≡_};
-ghost use mathlib.Core.Bool.{Bool, true, false};
-ghost use mathlib.Core.List.{List, [], _∷_, _++_};
-ghost use Prim.Native.Nat.{ℕ, _+_, _-_, _*_, _<_, _≤_};
-ghost use lib.Chars.{codes};
-ghost use lib.ListN.{length, take, drop};
+ghost use Prim.Native.Nat.{_+_, _-_, _*_, _<_, _≤_};
 ghost use Rattle.std.specs.Options.{mapped, Cases};
 ghost use Rattle.std.specs.declared.option.Option.the-variants.{None, Some};
-ghost use Rattle.unit_file.specs.Records.{itemOf, header, unit, cost};
-ghost use Rattle.unit_text.specs.Parsing.{afterWord, isDigit, onDigits, numberIn, fieldIn, atEnd, headerIn, unitIn, costIn, itemIn};
+ghost use Rattle.unit_file.specs.Records.{itemOf, cost};
+ghost use Rattle.unit_text.specs.Parsing.{afterWord, isDigit, numberIn, fieldIn, headerIn, unitIn, costIn, itemIn};
 use tariff::CostRow;
 use tariff::Sizes;
 use tariff::UnitRow;

@@ -1,11 +1,11 @@
 use native.Mathlib.Omega.{arith}
-use mathlib.Core.Path.{_≡_, refl, sym, ap, subst, _∙_}
+use mathlib.Core.Path.{_≡_, sym, ap, subst, _∙_}
 use mathlib.Core.List.{List}
 use Prim.Native.Nat.{ℕ, _+_, _-_, _<_}
-use lib.ListN.{length, take, drop}
+use lib.ListN.{length, take}
 use Rattle.std.proofs.shelf.Lists.{length-drop}
 use Rattle.unit_file.specs.Writing.{finishRefusal}
-use Rattle.unit_text.proofs.Assembling.{Assembled, Cut, assembled-start, assembled-more, assembled-fault, assembled-end, assembled-done, refused-by}
+use Rattle.unit_text.proofs.Assembling.{Assembled, assembled-start, assembled-more, assembled-fault, assembled-end, assembled-done, refused-by}
 use Rattle.unit_text.proofs.composing.compose_into.Needs as need
 
 pub loop-rest-holds : need.loop-rest-holds

@@ -1,5 +1,4 @@
 use Rattle.std.specs.Of.Vec.{vec-items}
-use mathlib.Core.List.{_++_}
 use Rattle.std.proofs.shelf.Parts.{pushed}
 use mathlib.Core.Path.{refl}
 use Rattle.unit_text.proofs.Scanning.{made-both}

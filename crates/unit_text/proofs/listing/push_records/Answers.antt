@@ -1,8 +1,7 @@
-use mathlib.Core.Path.{_≡_, refl, sym, ap, subst, _∙_}
+use mathlib.Core.Path.{_≡_, sym, ap, subst, _∙_}
 use mathlib.Core.List.{List}
 use Prim.Native.Nat.{ℕ}
 use Rattle.std.specs.Of.Vec.{vec-items}
-use Rattle.std.specs.declared.option.Option.the-variants.{Some, None}
 use Rattle.unit_file.specs.Records.{itemOf}
 use Rattle.unit_file.specs.Reading.{placeInOrder}
 use Rattle.unit_file.proofs.Walk.{at-record, at-end, at-fault}

@@ -1,5 +1,4 @@
-use mathlib.Core.Path.{_≡_, sym, _∙_}
-use Rattle.unit_file.specs.Records.{cost}
+use mathlib.Core.Path.{sym, _∙_}
 use Rattle.unit_text.proofs.Scanning.{cost-fields, at-end, not-at-end}
 use Rattle.unit_text.proofs.parsing.cost_in.Needs as need
 

@@ -1,5 +1,4 @@
-use mathlib.Core.Path.{_≡_, sym, _∙_}
-use Rattle.unit_file.specs.Records.{unit}
+use mathlib.Core.Path.{sym, _∙_}
 use Rattle.unit_text.proofs.Scanning.{unit-fields, at-end, not-at-end}
 use Rattle.unit_text.proofs.parsing.unit_in.Needs as need
 

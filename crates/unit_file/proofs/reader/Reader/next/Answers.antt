@@ -1,6 +1,5 @@
 use native.Mathlib.Omega.{arith}
-use mathlib.Core.Path.{refl, sym}
-use mathlib.Core.Bool.{true, false}
+use mathlib.Core.Path.{refl}
 use Rattle.std.specs.declared.result.Result.the-variants.{Ok, Err}
 use Rattle.unit_file.specs.Records.{itemOf}
 use Rattle.unit_file.proofs.Framing.{cut-short, whole}

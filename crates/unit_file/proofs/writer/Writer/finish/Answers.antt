@@ -1,4 +1,3 @@
-use mathlib.Core.Path.{_≡_, sym, ap, refl, _∙_}
 use native.Mathlib.Omega.{arith}
 use Rattle.std.proofs.shelf.Tests.{le-leb, lt-leb}
 use Rattle.unit_file.proofs.RoundTrip.{read-back}
