@@ -90,7 +90,7 @@ impl Refusal {
     }
 
     // The words for the reason.
-    pub fn reason(self) -> &'static str
+    fn reason(self) -> &'static str
         ensures { λ r. ⌜ now r ≡ reason self ⌝ }
     {
         match self {

@@ -42,9 +42,6 @@ cast-result g c = omega (arith, ints)
 pub sub-result : need.sub-result
 sub-result g c = omega (arith, ints)
 
-added : (u v s t : ℕ) (y z : ℤ) → u ≡ v → s ≡ t → y ≡ z → _≡_ {A = Division} (record { units = u; shares = s; left = y }) (record { units = v; shares = t; left = z })
-added u v s t y z eu es el = cc
-
 pub returns : need.returns
 returns g c =
     let m = g .R·SharingRule .meaning (c .args .rule .now) in
@@ -54,8 +51,10 @@ returns g c =
     let shares : c .column-total-shares .result ≡ sum (m (c .args .pool) (c .args .units .now)) = c .column-total-shares .ensures .value ∙ ap sum column in
     let left : toZ w64 (ofZ w64 (toZ w64 (ofZ w64 (c .from .result)) -ℤ toZ w64 (c .column-total-shares .result))) ≡ pos (c .args .pool) -ℤ pos (sum (m (c .args .pool) (c .args .units .now))) =
     omega (arith, ints) in
+    let units : c .column-total-units .result ≡ sum (c .args .units .now) = cc in
+    let same : _≡_ {A = Division} (record { units = c .column-total-units .result; shares = c .column-total-shares .result; left = toZ w64 (ofZ w64 (toZ w64 (ofZ w64 (c .from .result)) -ℤ toZ w64 (c .column-total-shares .result))) }) (division m (c .args .pool) (c .args .units .now)) = cc in
     record {
-      answers = ap Ok (added _ _ _ _ _ _ (c .column-total-units .ensures .value) shares left) ∙ sym (ap (λ o. answer o (division m (c .args .pool) (c .args .units .now))) none);
+      answers = ap Ok same ∙ sym (ap (λ o. answer o (division m (c .args .pool) (c .args .units .now))) none);
       writes = c .share .ensures .writes;
       means = c .share .ensures .means;
       lawful = g .R·SharingRule·met .lawful (c .args .rule .now);

@@ -28,7 +28,9 @@ here c =
     let f = fit-known (c .args .pool) (c .args .units .now) (length (c .args .column .now)) _ (c .in-Continue-total .ensures tt) in
     let more = sumBy-more (λ x. x) (c .args .units .now) (c .loop-i .i) 0 (c .loop-i-test .taken) in
     let seen : c .loop-i .seen + c .from-seen .result ≡ sum (take (c .loop-i .i + 1) (c .args .units .now)) = omega arith in
-    c .part-reached .ensures ∙ ap (λ s. c .args .pool * s / c .in-Continue-total .total) seen ∙ ap (λ t. c .args .pool * sum (take (c .loop-i .i + 1) (c .args .units .now)) / t) (f .is)
+    let total = f .is in
+    let part = c .part-reached .ensures in
+    cc
 
 pub sub-column : need.sub-column
 sub-column c = omega (arith, here c, reached-mono (c .args .pool) (c .args .units .now) (c .loop-i .i) (c .loop-i-test .taken))

@@ -1,0 +1,3 @@
+pub mod Follows
+pub mod Lives
+pub mod Voids

@@ -1,0 +1,4 @@
+pub mod Laws
+pub mod Machine
+pub mod Passes
+pub mod Run
