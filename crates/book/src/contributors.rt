@@ -63,14 +63,14 @@ impl OpenBook {
         ensures { λ r. ⌜ ((units : List UnitRow) (costs : List CostRow) → step (opened (openBook (now (self .entry))) units costs (now (marks .entry))) (handIn (passOf pass)) ≡ record { state = opened (openBook (now (self .entry))) units costs (now (marks .exit)); answer = told r }) ⌝ }
     {
         let good = marks.len() == CONTRIBUTORS && self.numbers.accepts(marks, &pass);
-        let contributor = pass.spend();
+        let holder = pass.spend();
         if marks.len() != CONTRIBUTORS {
             return Err(Refusal::TableUnfit);
         }
         if !good {
             return Err(Refusal::PassNotValid);
         }
-        marks[contributor] = 0;
+        marks[holder] = 0;
         Ok(())
     }
 }

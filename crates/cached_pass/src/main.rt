@@ -207,8 +207,8 @@ fn admit_again(
         Said::row(book.post(units, marks, &pass, load_row(0, 1, 40))),
     );
     log.note("contractor hands in", Said::done(book.hand_in(marks, pass)));
-    if let Ok(frozen) = freeze(book, marks, log) {
-        bill(&frozen, units, costs, log);
+    if let Ok(again) = freeze(book, marks, log) {
+        bill(&again, units, costs, log);
     }
     Ok(())
 }

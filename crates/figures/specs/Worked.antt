@@ -1,7 +1,7 @@
 -- Figures worked by hand, as theorems of the definitions that the contracts cite.
 --   thirds, gaps    the units of the worked pools
 --   Worked-shares   a pool of 100 in thirds, by both rules, and a pool of 5 with one customer's units
---   Worked-figures  the whole list, with the bills of Bills.antt
+--   Worked-figures  the whole list, with the bills of Bills.antt and the passes of Passes.antt
 use mathlib.Core.Path.{_≡_}
 use mathlib.Core.List.{List, [], _∷_}
 use Prim.Native.Nat.{ℕ}
@@ -9,6 +9,7 @@ use lib.IntN.{pos}
 use Rattle.sharing.specs.Rule.{division}
 use Rattle.sharing.specs.Rules.{down, running}
 use Rattle.figures.specs.Bills.{Worked-bills}
+use Rattle.figures.specs.Passes.{Worked-passes}
 
 abbrev pub thirds : List ℕ
 thirds = 100 ∷ 100 ∷ 100 ∷ []
@@ -26,3 +27,4 @@ pub record Worked-shares : Type 0 where
 pub record Worked-figures : Type 0 where
   pub shares : Worked-shares
   pub bills : Worked-bills
+  pub passes : Worked-passes
