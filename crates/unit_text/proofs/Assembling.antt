@@ -19,7 +19,7 @@ use Rattle.unit_file.specs.Writing.{putRefusal, finishRefusal, pasted, WrittenA
 use Rattle.unit_file.proofs.Pasting.{has-room, take-pasted}
 use Rattle.unit_text.specs.declared.composing.Reason.{Reason}
 use Rattle.unit_text.specs.declared.composing.Reason.the-variants.{Refused}
-use Rattle.unit_text.specs.Parsing.{itemIn}
+use Rattle.unit_line.specs.Parsing.{itemIn}
 use Rattle.unit_text.specs.Composing.{longer, linesIn, refusedOr, addedBy, goOn, ended, composeFrom, composed}
 
 impossible : {X : Type 0} → _≡_ {A = ℕ} 0 1 → X

@@ -1,11 +1,15 @@
--- A listing that grows, record by record.
+-- A text that grows, piece by piece and record by record.
 use mathlib.Core.Path.{_≡_, sym, ap, _∙_}
+use mathlib.Core.Bool.{cond}
 use mathlib.Core.List.{List, [], _++_, append-assoc}
 use Prim.Native.Nat.{ℕ, _+_, _≤_}
 use native.Mathlib.Omega.{arith}
 use lib.ListN.{length}
+use Rattle.std.specs.Results.{isOk}
+use Rattle.std.specs.Vec.{made}
 use Rattle.std.specs.declared.option.Option.{Option}
 use Rattle.std.specs.declared.option.Option.the-variants.{Some, None}
+use Rattle.std.specs.declared.result.Result.{Result}
 use Rattle.std.specs.declared.result.Result.the-variants.{Ok, Err}
 use Rattle.std.proofs.shelf.Lists.{append-nil}
 use Rattle.tariff.specs.declared.refusal.Refusal.{Refusal}
@@ -13,6 +17,15 @@ use Rattle.unit_file.specs.Records.{Item}
 use Rattle.unit_file.specs.Reading.{orderedAt, placeInOrder, openRefusal, Contents, goOn, begun, contentsFrom, contentsOf}
 use Rattle.unit_file.proofs.Walk.{Answer, contents-step, contents-open, opened, advances}
 use Rattle.unit_text.specs.Lines.{lineOf, linesOf}
+
+-- two pieces that were added one behind the other
+pub made-both : {T E : Type 0} (r : Result T E) (was mid now xs ys : List ℕ) → mid ≡ was ++ xs → now ≡ cond (isOk r) (mid ++ ys) mid → made r (λ _. now ≡ was ++ (xs ++ ys))
+made-both (Ok t) was mid now xs ys e f = f ∙ ap (λ (zs : List ℕ). zs ++ ys) e ∙ append-assoc was xs ys
+made-both (Err e′) was mid now xs ys e f = tt
+
+pub made-same : {T E : Type 0} (r : Result T E) (was now xs ys : List ℕ) → xs ≡ ys → made r (λ _. now ≡ was ++ xs) → made r (λ _. now ≡ was ++ ys)
+made-same (Ok t) was now xs ys e f = f ∙ ap (λ (zs : List ℕ). was ++ zs) e
+made-same (Err e′) was now xs ys e f = tt
 
 -- the lines so far and those still to come make up the whole
 pub record Growing (bs : List ℕ) (place : ℕ) (before text : List ℕ) : Type 0 where

@@ -1,5 +1,4 @@
 pub mod Growing
-pub mod Scanning
 pub mod Assembling
 pub mod LinesBack
 pub mod Returning

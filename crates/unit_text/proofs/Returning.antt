@@ -29,7 +29,7 @@ use Rattle.unit_file.proofs.RoundTrip.{rewritten}
 use Rattle.unit_text.specs.declared.composing.Fault.{Fault}
 use Rattle.unit_text.specs.declared.composing.Reason.{Reason}
 use Rattle.unit_text.specs.Lines.{textOf, linesOf, faultLine, listed}
-use Rattle.unit_text.specs.Parsing.{itemIn}
+use Rattle.unit_line.specs.Parsing.{itemIn}
 use Rattle.unit_text.specs.Composing.{longer, linesIn, refusedOr, addedBy, goOn, ended, composeFrom, composed, Inverse, Restored}
 use Rattle.unit_text.proofs.LinesBack.{Widths, widths, plain, text-plain, item-back}
 

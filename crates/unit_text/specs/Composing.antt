@@ -36,7 +36,7 @@ use Rattle.unit_text.specs.declared.composing.Fault.{Fault}
 use Rattle.unit_text.specs.declared.composing.Reason.{Reason}
 use Rattle.unit_text.specs.declared.composing.Reason.the-variants.{NotARecord, Refused}
 use Rattle.unit_text.specs.Lines.{listing}
-use Rattle.unit_text.specs.Parsing.{itemIn}
+use Rattle.unit_line.specs.Parsing.{itemIn}
 
 abbrev pub longer : ℕ → List (List ℕ) → List (List ℕ)
 longer b [] = (b ∷ []) ∷ []

@@ -10,7 +10,6 @@ ghost use Rattle.std.specs.declared.result.Result.the-variants.{Ok, Err};
 ghost use Rattle.tariff.specs.Limits.{mostFileBytes};
 ghost use Rattle.unit_file.specs.Laws.{ReadBack};
 ghost use Rattle.unit_text.specs.Composing.{composeFrom, composed, filed, Restored, reasonWords, faultWords};
-use crate::parsing::parse_line;
 use std::alloc::AllocError;
 use std::alloc::Global;
 use std::fmt;
@@ -20,6 +19,7 @@ use tariff::refusal::RefusalDebug;
 use tariff::refusal::RefusalDisplay;
 use tariff::refusal::RefusalPartialEq;
 use unit_file::Writer;
+use unit_line::parse_line;
 
 // Why a line of a text cannot stand in a file.
 #[derive(Clone, Copy, PartialEq, Eq, Debug)]

@@ -2,7 +2,6 @@
 // a file, and `compose` makes the file of a text.
 pub mod composing;
 pub mod listing;
-mod parsing;
 
 pub use composing::Fault;
 pub use composing::Reason;

@@ -1,7 +1,7 @@
 use Rattle.std.specs.Of.Vec.{vec-items}
 use Rattle.std.proofs.shelf.Parts.{pushed}
 use mathlib.Core.Path.{refl}
-use Rattle.unit_text.proofs.Scanning.{made-both}
+use Rattle.unit_text.proofs.Growing.{made-both}
 use Rattle.unit_text.proofs.listing.push_both.Needs as need
 
 pub returns : need.returns

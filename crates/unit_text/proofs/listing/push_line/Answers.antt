@@ -2,7 +2,7 @@ use mathlib.Core.List.{[], _∷_}
 use Rattle.std.specs.Of.Vec.{vec-items}
 use Rattle.unit_file.specs.Records.{itemOf}
 use Rattle.unit_text.specs.Lines.{textOf}
-use Rattle.unit_text.proofs.Scanning.{made-both}
+use Rattle.unit_text.proofs.Growing.{made-both}
 use Rattle.unit_text.proofs.listing.push_line.Needs as need
 
 pub returns : need.returns

@@ -4,7 +4,7 @@ use Rattle.std.specs.Of.Vec.{vec-items}
 use Rattle.unit_file.specs.Records.{itemOf}
 use Rattle.unit_file.specs.declared.record.Record.{Record}
 use Rattle.unit_text.specs.Lines.{textOf}
-use Rattle.unit_text.proofs.Scanning.{made-same}
+use Rattle.unit_text.proofs.Growing.{made-same}
 use Rattle.unit_text.proofs.listing.push_text.Needs as need
 
 pub returns-in-Continue-header-text : need.returns-in-Continue-header-text

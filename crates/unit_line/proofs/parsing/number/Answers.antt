@@ -5,9 +5,9 @@ use Prim.Native.Nat.{ℕ, _+_, _*_, _-_}
 use lib.ListN.{getD, drop}
 use Rattle.std.proofs.shelf.Tests.{lt-ltb, le-ltb}
 use Rattle.std.specs.declared.option.Option.the-variants.{None}
-use Rattle.unit_text.specs.Parsing.{onDigits}
-use Rattle.unit_text.proofs.Scanning.{number-begins, digits-end, digits-more, digits-all}
-use Rattle.unit_text.proofs.parsing.number.Needs as need
+use Rattle.unit_line.specs.Parsing.{onDigits}
+use Rattle.unit_line.proofs.Scanning.{number-begins, digits-end, digits-more, digits-all}
+use Rattle.unit_line.proofs.parsing.number.Needs as need
 
 pub returns-then-not-is-digit-2 : need.returns-then-not-is-digit-2
 returns-then-not-is-digit-2 c = record {

@@ -7,24 +7,13 @@ use native.Mathlib.Omega.{arith}
 use lib.Dec.{eqb, ltb}
 use lib.ListN.{length, getD, take, drop}
 use Rattle.std.proofs.shelf.Lists.{drop-more, drop-all, take-rest}
-use Rattle.std.specs.Results.{isOk}
-use Rattle.std.specs.Vec.{made}
 use Rattle.std.specs.declared.option.Option.{Option}
 use Rattle.std.specs.declared.option.Option.the-variants.{Some, None}
 use Rattle.std.specs.declared.result.Result.{Result}
 use Rattle.std.specs.declared.result.Result.the-variants.{Ok, Err}
 use lib.Chars.{codes}
 use Rattle.unit_file.specs.Records.{header, unit, cost}
-use Rattle.unit_text.specs.Parsing.{afterWord, isDigit, onDigits, numberIn, fieldIn, atEnd, headerIn, unitIn, costIn}
-
--- two pieces that were added one behind the other
-pub made-both : {T E : Type 0} (r : Result T E) (was mid now xs ys : List ℕ) → mid ≡ was ++ xs → now ≡ cond (isOk r) (mid ++ ys) mid → made r (λ _. now ≡ was ++ (xs ++ ys))
-made-both (Ok t) was mid now xs ys e f = f ∙ ap (λ (zs : List ℕ). zs ++ ys) e ∙ append-assoc was xs ys
-made-both (Err e′) was mid now xs ys e f = tt
-
-pub made-same : {T E : Type 0} (r : Result T E) (was now xs ys : List ℕ) → xs ≡ ys → made r (λ _. now ≡ was ++ xs) → made r (λ _. now ≡ was ++ ys)
-made-same (Ok t) was now xs ys e f = f ∙ ap (λ (zs : List ℕ). was ++ zs) e
-made-same (Err e′) was now xs ys e f = tt
+use Rattle.unit_line.specs.Parsing.{afterWord, isDigit, onDigits, numberIn, fieldIn, atEnd, headerIn, unitIn, costIn}
 
 -- words
 cond-none : (t : Bool) (o : Option (List ℕ)) → o ≡ None → cond t o None ≡ None

@@ -4,7 +4,7 @@ ghost use Prim.Native.Nat.{_+_, _-_, _*_, _<_, _≤_};
 ghost use Rattle.std.specs.Options.{mapped, Cases};
 ghost use Rattle.std.specs.declared.option.Option.the-variants.{None, Some};
 ghost use Rattle.unit_file.specs.Records.{itemOf, cost};
-ghost use Rattle.unit_text.specs.Parsing.{afterWord, isDigit, numberIn, fieldIn, headerIn, unitIn, costIn, itemIn};
+ghost use Rattle.unit_line.specs.Parsing.{afterWord, isDigit, numberIn, fieldIn, headerIn, unitIn, costIn, itemIn};
 use tariff::CostRow;
 use tariff::Sizes;
 use tariff::UnitRow;
@@ -123,7 +123,7 @@ fn cost_in<'a>(text: &'a [u8]) -> Option<Record<'a>>
 }
 
 // The record of a line, if it is the line of one.
-pub(crate) fn parse_line<'a>(line: &'a [u8]) -> Option<Record<'a>>
+pub fn parse_line<'a>(line: &'a [u8]) -> Option<Record<'a>>
     ensures { λ r. ⌜ mapped itemOf r ≡ itemIn (now (line .entry)) ⌝ }
 {
     if let Some(rest) = after_word(line, b"book ") {

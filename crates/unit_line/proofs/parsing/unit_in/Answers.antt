@@ -1,6 +1,6 @@
 use mathlib.Core.Path.{sym, _∙_}
-use Rattle.unit_text.proofs.Scanning.{unit-fields, at-end, not-at-end}
-use Rattle.unit_text.proofs.parsing.unit_in.Needs as need
+use Rattle.unit_line.proofs.Scanning.{unit-fields, at-end, not-at-end}
+use Rattle.unit_line.proofs.parsing.unit_in.Needs as need
 
 pub returns-then-text-gt0 : need.returns-then-text-gt0
 returns-then-text-gt0 c =
