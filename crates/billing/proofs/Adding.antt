@@ -5,10 +5,10 @@ use mathlib.Core.List.{List}
 use Prim.Native.Nat.{ℕ, _+_, _-_, _<_, _≤_}
 use native.Mathlib.Omega.{arith}
 use lib.Dec.{eqb}
-use lib.ListN.{length, getD, take, drop, replicate, length-take}
+use lib.ListN.{length, getD, take, drop, length-take}
 use Rattle.std.specs.shelf.Lists.{sumBy, All}
 use Rattle.std.proofs.shelf.Elements.{all-getD}
-use Rattle.std.proofs.shelf.Lists.{getD-take, getD-replicate}
+use Rattle.std.proofs.shelf.Lists.{getD-take}
 use Rattle.std.proofs.shelf.Sums.{sumBy-more, sumBy-take-le}
 use Rattle.tariff.specs.declared.rows.UnitRow.{UnitRow}
 use Rattle.lines.specs.declared.cell.Cell.{Cell}
@@ -44,9 +44,7 @@ known-at units n i known lt = all-getD (λ (u : UnitRow). u .customer < n) units
 pub part-length : (xs : List ℕ) (n m : ℕ) → n ≡ m → n ≤ length xs → length (take (n - 0) (drop 0 xs)) ≡ m
 part-length xs n m is le = omega (arith, length-take (n - 0) xs)
 
-pub part-zeros : (n : ℕ) → n ≤ 256 → Upto (take (n - 0) (drop 0 (replicate 256 0))) 0
-part-zeros n le k h =
-    let zeros : List ℕ = replicate 256 0 in
-    let lt : k < n = omega (arith, length-take (n - 0) zeros) in
-    let at : getD zeros k 0 ≡ 0 = getD-replicate 256 k 0 0 (omega arith) in
-    omega (arith, getD-take (n - 0) zeros k 0 (omega arith))
+pub part-zeros : (xs : List ℕ) (n : ℕ) → Upto xs 0 → n ≤ length xs → Upto (take (n - 0) (drop 0 xs)) 0
+part-zeros xs n none le k h =
+    let lt : k < n = omega (arith, length-take (n - 0) xs) in
+    omega (arith, getD-take (n - 0) xs k 0 (omega arith), none k (omega arith))

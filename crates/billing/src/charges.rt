@@ -13,6 +13,7 @@ ghost use Rattle.billing.specs.Work.{Adds, Rises, Upto, OnAxis, Proper, Sound,
 use crate::basis::Axis;
 use crate::basis::Basis;
 use crate::columns::add_column;
+use crate::columns::blank_units;
 use crate::columns::column_total;
 use crate::columns::fill_units;
 use lines::Cell;
@@ -78,8 +79,8 @@ fn charge_cell<R: SharingRule>(rule: &mut R, basis: Basis, cell: Cell, charges: 
         return 0;
     }
     let customers = usize::from(basis.sizes.customers);
-    let mut units = [0; 256];
-    let mut shares = [0; 256];
+    let mut units = blank_units();
+    let mut shares = blank_units();
     share_cell(
         rule,
         basis,

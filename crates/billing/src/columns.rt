@@ -14,6 +14,21 @@ use lines::UnitRowRow;
 use lines::totals::belongs;
 use tariff::UnitRow;
 
+// Room to work in: a column of units for the most customers.
+pub fn blank_units() -> [u32; 256]
+    ensures { λ r. ⌜ length r ≡ mostCustomers ⌝ }
+{
+    [0; 256]
+}
+
+// The same for cents; it holds no cents yet.
+pub fn blank_cents() -> [u64; 256]
+    ensures long { λ r. ⌜ length r ≡ mostCustomers ⌝ }
+    ensures none { λ r. ⌜ Upto r 0 ⌝ }
+{
+    [0; 256]
+}
+
 // Adds a row's quantity to its customer's figure, if the row is of these uses and in the cell.
 fn add_row(column: &mut [u32], uses: Kinds, cell: Cell, row: &UnitRow)
     requires { ⌜ now row .customer < length (now column) ⌝ ∗ ⌜ getD (now column) (now row .customer) 0 + now row .quantity < 2 ^ 32 ⌝ }

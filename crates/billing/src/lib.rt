@@ -23,6 +23,7 @@ ghost use Rattle.billing.specs.Work.{Upto, lineFigures, Billable, Sound};
 use basis::Basis;
 use bill_rules::Remainders;
 use charges::charge_line;
+use columns::blank_cents;
 use lines::BookSizes;
 use lines::Line;
 use remainders::remainders;
@@ -131,8 +132,8 @@ pub fn line_bill<R: SharingRule>(
         costs,
     };
     let customers = usize::from(sizes.customers);
-    let mut station_work = [0; 256];
-    let mut credit_work = [0; 256];
+    let mut station_work = blank_cents();
+    let mut credit_work = blank_cents();
     fill_columns(
         rule,
         basis,

@@ -19,6 +19,7 @@ use crate::basis::Axis;
 use crate::basis::Basis;
 use crate::charges::share_out;
 use crate::columns::add_column;
+use crate::columns::blank_units;
 use crate::columns::column_total;
 use crate::columns::fill_both;
 use lines::Cell;
@@ -123,8 +124,8 @@ fn station_day<R: SharingRule>(
         return Ok(());
     }
     let customers = usize::from(basis.sizes.customers);
-    let mut counted = [0; 256];
-    let mut work = [0; 256];
+    let mut counted = blank_units();
+    let mut work = blank_units();
     credit_day(
         rule,
         basis,

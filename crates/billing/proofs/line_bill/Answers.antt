@@ -1,7 +1,9 @@
 use mathlib.Core.Path.{_≡_, refl, sym, ap, subst, _∙_}
 use native.Mathlib.Omega.{arith}
-use Prim.Native.Nat.{_≤_}
-use lib.ListN.{length, replicate}
+use Prim.Native.Nat.{ℕ, _≤_}
+use mathlib.Core.List.{List}
+use lib.ListN.{length}
+use Rattle.tariff.specs.Limits.{mostCustomers}
 use Rattle.std.specs.Results.{isErr}
 use Rattle.std.specs.declared.result.Result.the-variants.{Err}
 use Rattle.std.proofs.shelf.Results.{err-from-errBy, made-from-err}
@@ -57,15 +59,16 @@ fill-columns-requires g c κs =
     let fit = fitted z p (b .fits) in
     let few = sound .customers-few in
     let customers = c .from-customers .result in
-    let front = part-length (replicate 256 0) customers (c .sizes-sizes .result .customers) (omega arith) (omega arith) in
-    let zeros = part-zeros customers (omega arith) in
+    let front = λ (xs : List ℕ) (long : length xs ≡ mostCustomers). part-length xs customers (c .sizes-sizes .result .customers) (omega arith) (omega arith) in
+    let station = c .blank-cents-station-work in
+    let credit = c .blank-cents-credit-work in
     record {
       sound = subst (λ z. Sound l z us cs) (sym e) sound;
       line = (n, b .is);
       lawful = subst (λ z. LawfulRows z us cs) (sym e) (b .lawful);
       places = (omega (arith, fit .0), omega (arith, fit .1), omega (arith, fit .2));
-      work-places = (front, front);
-      zeros = (zeros, zeros);
+      work-places = (front (station .result) (station .ensures .long), front (credit .result) (credit .ensures .long));
+      zeros = (part-zeros (station .result) customers (station .ensures .none) (omega arith), part-zeros (credit .result) customers (credit .ensures .none) (omega arith));
     }
 
 pub returns : need.returns

@@ -1,7 +1,9 @@
 use mathlib.Core.Path.{_≡_, refl, sym, _∙_}
+use mathlib.Core.List.{List}
 use Prim.Native.Nat.{ℕ}
 use native.Mathlib.Omega.{arith}
-use lib.ListN.{replicate}
+use lib.ListN.{length}
+use Rattle.tariff.specs.Limits.{mostCustomers}
 use Rattle.bill_rules.specs.Bill.{pool}
 use Rattle.billing.proofs.Adding.{part-length}
 use Rattle.billing.proofs.Pools.{no-pool, stranded-none}
@@ -32,10 +34,10 @@ share-cell-requires g c κs =
     let few = c .pre .sound .customers-few in
     let fit = c .pre .sound .costs-fit (c .args .cell .area) (c .args .cell .day) (c .args .cell .hour) (c .pre .proper) in
     let customers = c .from-customers .result in
-    let front = part-length (replicate 256 0) customers (c .args .basis .sizes .customers) (omega arith) (omega arith) in
+    let front = λ (xs : List ℕ) (long : length xs ≡ mostCustomers). part-length xs customers (c .args .basis .sizes .customers) (omega arith) (omega arith) in
     record {
       sound = c .pre .sound;
       cents = (c .pool-pool .ensures, omega (arith, c .pool-pool .ensures));
-      places = (c .pre .places, front, front);
+      places = (c .pre .places, front (c .blank-units-units .result) (c .blank-units-units .ensures), front (c .blank-units-shares .result) (c .blank-units-shares .ensures));
       room = c .pre .room;
     }

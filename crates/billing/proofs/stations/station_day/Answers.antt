@@ -1,12 +1,13 @@
 use mathlib.Core.Path.{_≡_, refl, sym, ap, _∙_}
 use mathlib.Core.Bool.{cond}
+use mathlib.Core.List.{List}
 use Prim.Native.Nat.{ℕ, _<_}
 use native.Mathlib.Omega.{arith}
-use lib.ListN.{getD, replicate}
+use lib.ListN.{length, getD}
 use Rattle.std.specs.declared.option.Option.the-variants.{Some, None}
 use Rattle.std.proofs.shelf.Tests.{le-ltb}
 use Rattle.tariff.specs.declared.refusal.Refusal.the-variants.{StationChargesTooLarge}
-use Rattle.tariff.specs.Limits.{mostAmount}
+use Rattle.tariff.specs.Limits.{mostAmount, mostCustomers}
 use Rattle.tariff.specs.Refusals.{answer}
 use Rattle.lines.specs.Cells.{cell}
 use Rattle.bill_rules.specs.Bill.{pool, counted, recovered, creditOf}
@@ -47,13 +48,13 @@ credit-day-requires g c κs =
     let few = c .pre .sound .customers-few in
     let fit = c .pre .sound .costs-fit (c .args .area) (c .args .day) 0 (c .pre .proper) in
     let customers = c .from-customers .result in
-    let front = part-length (replicate 256 0) customers (c .args .basis .sizes .customers) (omega arith) (omega arith) in
+    let front = λ (xs : List ℕ) (long : length xs ≡ mostCustomers). part-length xs customers (c .args .basis .sizes .customers) (omega arith) (omega arith) in
     record {
       sound = c .pre .sound;
       has = c .pre .has;
       cents = (c .pool-pool .ensures, omega (arith, c .pool-pool .ensures));
       places = c .pre .places;
-      work-places = (front, front);
+      work-places = (front (c .blank-units-counted .result) (c .blank-units-counted .ensures), front (c .blank-units-work .result) (c .blank-units-work .ensures));
       room = c .pre .room;
     }
 

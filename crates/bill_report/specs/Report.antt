@@ -1,0 +1,96 @@
+-- What the program `bill` answers to a line, a rule and a unit file.
+--   meaningOf, ruleWord   the two rules by their names
+--   chargeWord            the head of the charge column: on line 7 what customers receive
+--   netOf                 charge and station charge less credit
+--   rowText, rowOf        a row of the table, and that of one customer
+--   headOf                what stands before the rows
+--   sumText               the totals
+--   balanceText           the balance against the costs
+--   tableOf               the table of a bill
+--   refusedLine           the line for a refusal
+--   reportOf              whether the bill is accepted, and the table or the line
+use mathlib.Core.Bool.{Bool, true, false, cond}
+use mathlib.Core.List.{List, [], _∷_, _++_}
+use Prim.Native.Nat.{ℕ, _+_, _/_, _%_}
+use lib.Chars.{codes}
+use lib.Dec.{eqb}
+use lib.IntN.{ℤ, pos, _+ℤ_, _-ℤ_}
+use lib.ListN.{length, getD}
+use Rattle.std.specs.declared.option.Option.{Option}
+use Rattle.std.specs.declared.option.Option.the-variants.{Some, None}
+use Rattle.std.specs.declared.result.Result.{Result}
+use Rattle.std.specs.declared.result.Result.the-variants.{Ok, Err}
+use Rattle.std.specs.Iters.{counting}
+use Rattle.std.specs.shelf.Lists.{sum, joined}
+use Rattle.std.specs.Written.{decimal, signed}
+use Rattle.tariff.specs.declared.refusal.Refusal.{Refusal}
+use Rattle.tariff.specs.Refusals.{words as refusalWords}
+use Rattle.sharing.specs.Rule.{Meaning}
+use Rattle.sharing.specs.Rules.{down, running}
+use Rattle.lines.specs.Sizes.{sizesRefusal}
+use Rattle.lines.specs.Totals.{lineCosts}
+use Rattle.bill_rules.specs.Bill.{Figures, Lengths, bill}
+use Rattle.bill_report.specs.declared.report.RuleName.{RuleName}
+use Rattle.bill_report.specs.declared.report.RuleName.the-variants.{Down, Running}
+use Rattle.bill_report.specs.Loading.{Gathered, loaded}
+
+abbrev pub meaningOf : RuleName → Meaning
+meaningOf Down = down
+meaningOf Running = running
+
+abbrev pub ruleWord : RuleName → List ℕ
+ruleWord Down = codes "down"
+ruleWord Running = codes "running"
+
+abbrev pub chargeWord : ℕ → List ℕ
+chargeWord n = cond (eqb n 7) (codes "receives") (codes "charge")
+
+abbrev pub netOf : ℕ → ℕ → ℕ → ℤ
+netOf charge station credit = (pos charge +ℤ pos station) -ℤ pos credit
+
+abbrev pub rowText : ℕ → ℕ → ℕ → ℕ → List ℕ
+rowText customer charge station credit =
+    decimal customer ++ (codes " " ++ (decimal charge ++ (codes " " ++ (decimal station ++ (codes " " ++ (decimal credit ++ (codes " " ++ (signed (netOf charge station credit) ++ codes "\n"))))))))
+
+abbrev pub rowOf : List ℕ → List ℕ → List ℕ → ℕ → List ℕ
+rowOf charges stations credits k = rowText k (getD charges k 0) (getD stations k 0) (getD credits k 0)
+
+abbrev pub headOf : ℕ → RuleName → List ℕ
+headOf n rule =
+    codes "line " ++ (decimal n ++ (codes " by " ++ (ruleWord rule ++ (codes ", in cents\ncustomer " ++ (chargeWord n ++ codes " station credit net\n")))))
+
+abbrev pub sumText : ℕ → ℕ → ℕ → List ℕ
+sumText charge station credit =
+    codes "sum " ++ (decimal charge ++ (codes " " ++ (decimal station ++ (codes " " ++ (decimal credit ++ (codes " " ++ (signed (netOf charge station credit) ++ codes "\n")))))))
+
+-- what is short, over and stranded beside the net sum, and the costs
+abbrev pub balanceText : ℤ → ℤ → ℤ → ℕ → List ℕ
+balanceText short over stranded all =
+    codes "net sum + short " ++ (signed short ++ (codes " - over " ++ (signed over ++ (codes " + stranded " ++ (signed stranded ++ (codes " = costs " ++ (decimal all ++ codes "\n")))))))
+
+abbrev pub tableOf : ℕ → RuleName → ℕ → Figures → List ℕ
+tableOf n rule all f =
+    (headOf n rule ++ joined (rowOf (f .charges) (f .stations) (f .credits)) (counting 0 (length (f .charges))))
+    ++ (sumText (sum (f .charges)) (sum (f .stations)) (sum (f .credits)) ++ balanceText (f .short) (f .over) (f .stranded) all)
+
+abbrev pub refusedLine : Refusal → List ℕ
+refusedLine e = codes "bill: " ++ (refusalWords e ++ codes "\n")
+
+abbrev pub byBill : ℕ → RuleName → ℕ → Result Figures Refusal → Bool × List ℕ
+byBill n rule all (Err e) = (false, refusedLine e)
+byBill n rule all (Ok f) = (true, tableOf n rule all f)
+
+abbrev pub evenly : ℕ → Lengths
+evenly customers = record { charges = customers; stations = customers; credits = customers }
+
+abbrev pub bySizes : ℕ → RuleName → Gathered → Option Refusal → Bool × List ℕ
+bySizes n rule g (Some e) = (false, refusedLine e)
+bySizes n rule g None =
+    byBill n rule (lineCosts n (g .costs)) (bill (meaningOf rule) n (g .sizes) (g .units) (g .costs) (evenly (g .sizes .customers)))
+
+abbrev pub byRows : ℕ → RuleName → Result Gathered Refusal → Bool × List ℕ
+byRows n rule (Err e) = (false, refusedLine e)
+byRows n rule (Ok g) = bySizes n rule g (sizesRefusal (g .sizes))
+
+abbrev pub reportOf : ℕ → RuleName → List ℕ → Bool × List ℕ
+reportOf n rule bs = byRows n rule (loaded bs)
