@@ -15,7 +15,7 @@ use tariff::Sizes;
 use tariff::UnitRow;
 
 #[derive(Clone, Copy)]
-pub struct Basis<'u, 'c> {
+pub(crate) struct Basis<'u, 'c> {
     pub line: Line,
     pub sizes: Sizes,
     pub units: &'u [UnitRow],
@@ -24,7 +24,7 @@ pub struct Basis<'u, 'c> {
 
 impl Basis<'_, '_> {
     // The line's costs in a cell.
-    pub fn pool(self, cell: Cell) -> u32
+    pub(crate) fn pool(self, cell: Cell) -> u32
         requires { ⌜ costIn (self .line .number) (now (self .costs)) cell ≤ mostAmount ⌝ }
         ensures { λ r. ⌜ r ≡ costIn (self .entry .line .number) (now (self .entry .costs)) cell ⌝ }
     {
@@ -32,7 +32,7 @@ impl Basis<'_, '_> {
     }
 
     // All costs of the line.
-    pub fn all_costs(self) -> u128
+    pub(crate) fn all_costs(self) -> u128
         ensures { λ r. ⌜ r ≡ lineCosts (self .entry .line .number) (now (self .entry .costs)) ⌝ }
     {
         total(self.costs, Kinds::Only(self.line.number), WHOLE)
@@ -42,13 +42,13 @@ impl Basis<'_, '_> {
 // The values of a field: 1 to a most where the line needs the field, else 0 alone. `end` is past
 // the last.
 #[derive(Clone, Copy)]
-pub struct Axis {
+pub(crate) struct Axis {
     pub first: u8,
     pub end: u8,
 }
 
 impl Axis {
-    pub fn of(needed: bool, most: u8) -> Axis
+    pub(crate) fn of(needed: bool, most: u8) -> Axis
         requires { ⌜ most < 255 ⌝ }
         ensures { λ r. ⌜ r ≡ record { first = cond needed 1 0; end = cond needed (most + 1) 1 } ⌝ }
     {

@@ -21,7 +21,7 @@ use sharing::SharingRule;
 use tariff::limits::HOURS_OF_DAY;
 
 // Shares a pool by a rule that does not refuse it.
-pub fn share_out<R: SharingRule>(rule: &mut R, pool: u32, units: &[u32], column: &mut [u32])
+pub(crate) fn share_out<R: SharingRule>(rule: &mut R, pool: u32, units: &[u32], column: &mut [u32])
     requires { ⌜ shareRefusal pool (now units) (length (now column)) ≡ None ⌝ }
     ensures writes { λ _. ⌜ now (column .exit) ≡ meaning (now (rule .entry)) pool (now (units .entry)) ⌝ }
     ensures means { λ _. ⌜ meaning (now (rule .exit)) ≡ meaning (now (rule .entry)) ⌝ }
@@ -164,7 +164,7 @@ fn charge_area<R: SharingRule>(rule: &mut R, basis: Basis, area: u8, charges: &m
 
 // All cells of the line, area by area: adds each customer's charges to the column, and answers
 // what is stranded.
-pub fn charge_line<R: SharingRule>(rule: &mut R, basis: Basis, charges: &mut [u64]) -> u64
+pub(crate) fn charge_line<R: SharingRule>(rule: &mut R, basis: Basis, charges: &mut [u64]) -> u64
     requires sound { ⌜ Sound (basis .line) (basis .sizes) (now (basis .units)) (now (basis .costs)) ⌝ }
     requires places { ⌜ length (now charges) ≡ basis .sizes .customers ⌝ }
     requires room { ⌜ Upto (now charges) (2 ^ 60) ⌝ }

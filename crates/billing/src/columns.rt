@@ -15,14 +15,14 @@ use lines::totals::belongs;
 use tariff::UnitRow;
 
 // Room to work in: a column of units for the most customers.
-pub fn blank_units() -> [u32; 256]
+pub(crate) fn blank_units() -> [u32; 256]
     ensures { λ r. ⌜ length r ≡ mostCustomers ⌝ }
 {
     [0; 256]
 }
 
 // The same for cents; it holds no cents yet.
-pub fn blank_cents() -> [u64; 256]
+pub(crate) fn blank_cents() -> [u64; 256]
     ensures long { λ r. ⌜ length r ≡ mostCustomers ⌝ }
     ensures none { λ r. ⌜ Upto r 0 ⌝ }
 {
@@ -40,7 +40,7 @@ fn add_row(column: &mut [u32], uses: Kinds, cell: Cell, row: &UnitRow)
 }
 
 // Each customer's units of these uses in the cell.
-pub fn fill_units(units: &[UnitRow], uses: Kinds, cell: Cell, column: &mut [u32])
+pub(crate) fn fill_units(units: &[UnitRow], uses: Kinds, cell: Cell, column: &mut [u32])
     requires known { ⌜ All (λ u. u .customer < length (now column)) (now units) ⌝ }
     requires small { ⌜ allQuantities (now units) ≤ mostAmount ⌝ }
     ensures { λ _. ⌜ now (column .exit) ≡ unitsIn uses (now (units .entry)) (length (now (column .entry))) cell ⌝ }
@@ -52,7 +52,7 @@ pub fn fill_units(units: &[UnitRow], uses: Kinds, cell: Cell, column: &mut [u32]
 }
 
 // The same for two sets of uses, in one pass over the rows.
-pub fn fill_both(
+pub(crate) fn fill_both(
     units: &[UnitRow],
     cell: Cell,
     uses: Kinds,
@@ -75,7 +75,7 @@ pub fn fill_both(
 }
 
 // Adds a column to another.
-pub fn add_column(onto: &mut [u64], column: &[u32])
+pub(crate) fn add_column(onto: &mut [u64], column: &[u32])
     requires places { ⌜ length (now onto) ≡ length (now column) ⌝ }
     requires room { ⌜ Upto (now onto) (2 ^ 63) ⌝ }
     ensures { λ _. ⌜ Adds (now (onto .entry)) (now (onto .exit)) (λ k. getD (now (column .entry)) k 0) ⌝ }
@@ -86,7 +86,7 @@ pub fn add_column(onto: &mut [u64], column: &[u32])
 }
 
 // The sum of a column of at most 256 figures.
-pub fn column_total(column: &[u32]) -> u64
+pub(crate) fn column_total(column: &[u32]) -> u64
     requires { ⌜ length (now column) ≤ mostCustomers ⌝ }
     ensures { λ r. ⌜ r ≡ sum (now (column .entry)) ⌝ }
 {
@@ -98,7 +98,7 @@ pub fn column_total(column: &[u32]) -> u64
 }
 
 // The sum of a column of at most 256 figures of cents.
-pub fn column_cents(column: &[u64]) -> u64
+pub(crate) fn column_cents(column: &[u64]) -> u64
     requires few { ⌜ length (now column) ≤ mostCustomers ⌝ }
     requires small { ⌜ Upto (now column) (2 ^ 48) ⌝ }
     ensures value { λ r. ⌜ r ≡ sum (now (column .entry)) ⌝ }

@@ -10,7 +10,7 @@ use crate::columns::column_cents;
 use bill_rules::Remainders;
 
 // The costs that were neither charged nor stranded, and the station charges that were not credited.
-pub fn remainders(
+pub(crate) fn remainders(
     all: u128,
     stranded: u64,
     charges: &[u64],

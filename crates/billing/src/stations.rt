@@ -188,7 +188,7 @@ fn station_areas<R: SharingRule>(
 
 // The station part of a line, if it has one: adds the station charges and the credits to the
 // columns, unless those of one area and day come to too much.
-pub fn station_part<R: SharingRule>(
+pub(crate) fn station_part<R: SharingRule>(
     rule: &mut R,
     basis: Basis,
     stations: &mut [u64],

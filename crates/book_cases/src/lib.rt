@@ -17,30 +17,100 @@ mod tests {
 
     const LIMIT: u32 = 2_147_483_647;
 
-    const SIZES: Sizes = Sizes { customers: 3, days: 1, subzones: 1 };
+    const SIZES: Sizes = Sizes {
+        customers: 3,
+        days: 1,
+        subzones: 1,
+    };
 
-    const ROW: UnitRow = UnitRow { customer: 0, day: 1, hour: 1, subzone: 1, usage: 0, quantity: 100 };
+    const ROW: UnitRow = UnitRow {
+        customer: 0,
+        day: 1,
+        hour: 1,
+        subzone: 1,
+        usage: 0,
+        quantity: 100,
+    };
 
-    const COST: CostRow = CostRow { line: 3, subzone: 1, day: 1, hour: 1, amount: 1000 };
+    const COST: CostRow = CostRow {
+        line: 3,
+        subzone: 1,
+        day: 1,
+        hour: 1,
+        amount: 1000,
+    };
 
     fn of(hour: u8, quantity: u32) -> UnitRow {
-        UnitRow { customer: 0, day: 1, hour, subzone: 1, usage: 0, quantity }
+        UnitRow {
+            customer: 0,
+            day: 1,
+            hour,
+            subzone: 1,
+            usage: 0,
+            quantity,
+        }
     }
 
     fn cost(line: u8, subzone: u8, day: u8, hour: u8, amount: u32) -> CostRow {
-        CostRow { line, subzone, day, hour, amount }
+        CostRow {
+            line,
+            subzone,
+            day,
+            hour,
+            amount,
+        }
     }
 
     #[test]
     fn sizes_and_marks() -> Result<(), Fail> {
         let mut marks = [9; 64];
-        check(OpenBook::open(Sizes { customers: 257, days: 1, subzones: 1 }, 1, &mut marks).is_err())?;
-        check(OpenBook::open(Sizes { customers: 0, days: 1, subzones: 1 }, 1, &mut marks).is_err())?;
-        check(OpenBook::open(Sizes { customers: 1, days: 32, subzones: 1 }, 1, &mut marks).is_err())?;
-        check(OpenBook::open(Sizes { customers: 1, days: 1, subzones: 33 }, 1, &mut marks).is_err())?;
+        check(OpenBook::open(
+            Sizes {
+                customers: 257,
+                days: 1,
+                subzones: 1,
+            },
+            1,
+            &mut marks,
+        ).is_err())?;
+        check(OpenBook::open(
+            Sizes {
+                customers: 0,
+                days: 1,
+                subzones: 1,
+            },
+            1,
+            &mut marks,
+        ).is_err())?;
+        check(OpenBook::open(
+            Sizes {
+                customers: 1,
+                days: 32,
+                subzones: 1,
+            },
+            1,
+            &mut marks,
+        ).is_err())?;
+        check(OpenBook::open(
+            Sizes {
+                customers: 1,
+                days: 1,
+                subzones: 33,
+            },
+            1,
+            &mut marks,
+        ).is_err())?;
         check(OpenBook::open(SIZES, 1, &mut marks[0..63]).is_err())?;
         check_eq(marks[0], 9)?;
-        let _book = OpenBook::open(Sizes { customers: 256, days: 31, subzones: 32 }, 1, &mut marks)?;
+        let _book = OpenBook::open(
+            Sizes {
+                customers: 256,
+                days: 31,
+                subzones: 32,
+            },
+            1,
+            &mut marks,
+        )?;
         check_eq(marks, [0; 64])
     }
 
@@ -202,10 +272,54 @@ mod tests {
 
     // A header, a row, a note, and a row with hour 25.
     const FILE: [u8; 38] = [
-        1, 0, 5, 0, 0, 3, 1, 1, 0, 11, 1, 0, 0, 1, 1, 1, 0, 0, 0, 2, 88, 0, 2, 3, 65, 0, 11, 1, 0, 1, 1, 25, 1, 0, 0, 0, 1, 44,
+        1,
+        0,
+        5,
+        0,
+        0,
+        3,
+        1,
+        1,
+        0,
+        11,
+        1,
+        0,
+        0,
+        1,
+        1,
+        1,
+        0,
+        0,
+        0,
+        2,
+        88,
+        0,
+        2,
+        3,
+        65,
+        0,
+        11,
+        1,
+        0,
+        1,
+        1,
+        25,
+        1,
+        0,
+        0,
+        0,
+        1,
+        44,
     ];
 
-    fn loaded(book: &mut OpenBook, units: &mut [UnitRow], costs: &mut [CostRow], marks: &[u32], pass: &Pass, bytes: &[u8]) -> (usize, u8, usize, RefusedBy) {
+    fn loaded(
+        book: &mut OpenBook,
+        units: &mut [UnitRow],
+        costs: &mut [CostRow],
+        marks: &[u32],
+        pass: &Pass,
+        bytes: &[u8],
+    ) -> (usize, u8, usize, RefusedBy) {
         let report = book.load(units, costs, marks, pass, bytes);
         (report.rows, report.number(), report.place, report.by)
     }
@@ -218,12 +332,40 @@ mod tests {
         let mut book = OpenBook::open(SIZES, 7, &mut marks)?;
         let pass = book.admit(&mut marks, 0)?;
         let half = loaded(&mut book, &mut units, &mut costs, &marks, &pass, &FILE);
-        let cut = loaded(&mut book, &mut units, &mut costs, &marks, &pass, &FILE[0..24]);
-        let whole = loaded(&mut book, &mut units, &mut costs, &marks, &pass, &FILE[0..25]);
+        let cut = loaded(
+            &mut book,
+            &mut units,
+            &mut costs,
+            &marks,
+            &pass,
+            &FILE[0..24],
+        );
+        let whole = loaded(
+            &mut book,
+            &mut units,
+            &mut costs,
+            &marks,
+            &pass,
+            &FILE[0..25],
+        );
         let empty = loaded(&mut book, &mut units, &mut costs, &marks, &pass, &[]);
         let version = loaded(&mut book, &mut units, &mut costs, &marks, &pass, &[1]);
-        let other_sizes = loaded(&mut book, &mut units, &mut costs, &marks, &pass, &[1, 0, 5, 0, 0, 4, 1, 1]);
-        let short = loaded(&mut book, &mut units[0..1], &mut costs, &marks, &pass, &FILE);
+        let other_sizes = loaded(
+            &mut book,
+            &mut units,
+            &mut costs,
+            &marks,
+            &pass,
+            &[1, 0, 5, 0, 0, 4, 1, 1],
+        );
+        let short = loaded(
+            &mut book,
+            &mut units[0..1],
+            &mut costs,
+            &marks,
+            &pass,
+            &FILE,
+        );
         let quantity = units[0].quantity;
         let handed = book.hand_in(&mut marks, pass);
         check_eq(half, (1, 8, 25, RefusedBy::Book))?;

@@ -3,6 +3,11 @@
 // call is printed with its answer.
 mod said;
 
+ghost use mathlib.Core.Path.{_≡_};
+ghost use mathlib.Core.Bool.{false};
+ghost use Rattle.book_rules.specs.Machine.{valid};
+ghost use Rattle.book_rules.specs.Run.{opened};
+ghost use Rattle.book.specs.Shown.{openBook, passOf};
 use book::FrozenBook;
 use book::OpenBook;
 use book::Pass;
@@ -47,7 +52,7 @@ const COST: CostRow = CostRow {
 
 // What each call answered so far.
 #[derive(Drop)]
-struct Log {
+pub struct Log {
     calls: [&'static str; 32],
     answers: [Said; 32],
     count: usize,
@@ -119,31 +124,26 @@ fn post_all(
     );
 }
 
-// The pass of the removed contractor is tried for four days.
-fn try_cached_pass(
+// The pass of the removed contractor is tried for four days. With a pass that is not valid, nothing
+// of the book or of its tables changes.
+pub fn try_cached_pass(
     book: &mut OpenBook,
     units: &mut [UnitRow],
     costs: &mut [CostRow],
     marks: &[u32],
     contractor: &Pass,
     log: &mut Log,
-) {
-    log.note(
-        "day 1: the cached pass corrects row 0",
-        Said::done(book.correct(units, marks, contractor, 0, 1)),
-    );
-    log.note(
-        "day 2: the cached pass corrects row 1",
-        Said::done(book.correct(units, marks, contractor, 1, 1)),
-    );
-    log.note(
-        "day 3: the cached pass posts a row",
-        Said::row(book.post(units, marks, contractor, load_row(0, 0, 5))),
-    );
-    log.note(
-        "day 4: the cached pass adds a cost",
-        Said::row(book.add_cost(costs, marks, contractor, COST)),
-    );
+)
+    ensures { λ _. ⌜ (valid (openBook (now (book .entry))) (now (marks .entry)) (passOf (now (contractor .entry))) ≡ false → opened (openBook (now (book .exit))) (now (units .exit)) (now (costs .exit)) (now (marks .entry)) ≡ opened (openBook (now (book .entry))) (now (units .entry)) (now (costs .entry)) (now (marks .entry))) ⌝ }
+{
+    let first = book.correct(units, marks, contractor, 0, 1);
+    log.note("day 1: the cached pass corrects row 0", Said::done(first));
+    let second = book.correct(units, marks, contractor, 1, 1);
+    log.note("day 2: the cached pass corrects row 1", Said::done(second));
+    let third = book.post(units, marks, contractor, load_row(0, 0, 5));
+    log.note("day 3: the cached pass posts a row", Said::row(third));
+    let fourth = book.add_cost(costs, marks, contractor, COST);
+    log.note("day 4: the cached pass adds a cost", Said::row(fourth));
 }
 
 fn bill(book: &FrozenBook, units: &[UnitRow], costs: &[CostRow], log: &mut Log) {
@@ -159,7 +159,10 @@ fn bill(book: &FrozenBook, units: &[UnitRow], costs: &[CostRow], log: &mut Log) 
         &mut stations,
         &mut credits,
     );
-    log.note("bill line 3 by Down", Said::bill(by_down));
+    log.note(
+        "bill line 3 by Down",
+        Said::bill(by_down, charges, stations, credits),
+    );
     let by_running = book.bill(
         &mut Running,
         units,
@@ -169,7 +172,10 @@ fn bill(book: &FrozenBook, units: &[UnitRow], costs: &[CostRow], log: &mut Log) 
         &mut stations,
         &mut credits,
     );
-    log.note("bill line 3 by Running", Said::bill(by_running));
+    log.note(
+        "bill line 3 by Running",
+        Said::bill(by_running, charges, stations, credits),
+    );
 }
 
 // Freezes the book, or says why it stays open.
