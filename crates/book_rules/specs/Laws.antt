@@ -11,7 +11,6 @@ use mathlib.Core.Bool.{true, false}
 use mathlib.Core.List.{List, []}
 use Prim.Native.Nat.{ℕ}
 use Rattle.std.specs.declared.option.Option.the-variants.{None}
-use Rattle.tariff.specs.declared.refusal.Refusal.the-variants.{TableUnfit, PassNotValid}
 use Rattle.tariff.specs.declared.rows.Sizes.{Sizes}
 use Rattle.tariff.specs.declared.rows.UnitRow.{UnitRow}
 use Rattle.tariff.specs.declared.rows.CostRow.{CostRow}
