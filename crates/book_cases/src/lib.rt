@@ -2,11 +2,14 @@
 // passes in, and then looks at the answers.
 #[cfg(test)]
 mod tests {
+    use bill_rules::Remainders;
     use book::OpenBook;
     use book::Pass;
     use book::load::RefusedBy;
     use book::load::RefusedByDebug;
     use book::load::RefusedByPartialEq;
+    use sharing::Running;
+    use sharing::RunningRule;
     use std::test::*;
     use tariff::CostRow;
     use tariff::Refusal;
@@ -211,6 +214,49 @@ mod tests {
         check_eq(spent, Err(Refusal::TableUnfit))?;
         check_eq(marks[0], 1)?;
         check(book.freeze(&few).is_err())
+    }
+
+    fn refusal_in(answer: Result<Remainders, Refusal>) -> Option<Refusal> {
+        match answer {
+            Ok(_) => None,
+            Err(refusal) => Some(refusal),
+        }
+    }
+
+    // A bill needs the rows that the book counts, and a place of each column for each customer.
+    #[test]
+    fn bills_of_short_tables_and_wrong_columns() -> Result<(), Fail> {
+        let mut marks = [0; 64];
+        let mut units = [ROW; 2];
+        let mut costs = [COST; 2];
+        let mut book = OpenBook::open(SIZES, 7, &mut marks)?;
+        let pass = book.admit(&mut marks, 0)?;
+        let posted = book.post(&mut units, &marks, &pass, ROW);
+        let added = book.add_cost(&mut costs, &marks, &pass, COST);
+        let handed = book.hand_in(&mut marks, pass);
+        check_eq(posted, Ok(0))?;
+        check_eq(added, Ok(0))?;
+        check_eq(handed, Ok(()))?;
+        let frozen = match book.freeze(&marks) {
+            Ok(frozen) => frozen,
+            Err(_) => return check(false),
+        };
+        let mut a = [7; 3];
+        let mut b = [7; 3];
+        let mut c = [7; 3];
+        let mut wide = [7; 4];
+        let rule = &mut Running;
+        let no_units = frozen.bill(rule, &units[0..0], &costs, 3, &mut a, &mut b, &mut c);
+        check_eq(refusal_in(no_units), Some(Refusal::TableUnfit))?;
+        let no_costs = frozen.bill(rule, &units, &costs[0..0], 3, &mut a, &mut b, &mut c);
+        check_eq(refusal_in(no_costs), Some(Refusal::TableUnfit))?;
+        let too_wide = frozen.bill(rule, &units, &costs, 3, &mut a, &mut wide, &mut c);
+        check_eq(refusal_in(too_wide), Some(Refusal::TableUnfit))?;
+        check_eq(a[0], 7)?;
+        check_eq(wide[3], 7)?;
+        let fitting = frozen.bill(rule, &units[0..1], &costs[0..1], 3, &mut a, &mut b, &mut c);
+        check_eq(refusal_in(fitting), None)?;
+        check_eq(a[0], 1000)
     }
 
     #[test]
