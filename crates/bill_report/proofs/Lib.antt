@@ -1,3 +1,3 @@
 pub mod Answering
-pub mod Gathers
+pub mod Settles
 pub mod TextLaws

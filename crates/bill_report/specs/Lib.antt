@@ -1,3 +1,3 @@
-pub mod Loading
 pub mod Report
+pub mod Settling
 pub mod Shown

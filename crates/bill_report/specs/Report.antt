@@ -16,23 +16,23 @@ use lib.Chars.{codes}
 use lib.Dec.{eqb}
 use lib.IntN.{ℤ, pos, _+ℤ_, _-ℤ_}
 use lib.ListN.{length, getD}
-use Rattle.std.specs.declared.option.Option.{Option}
-use Rattle.std.specs.declared.option.Option.the-variants.{Some, None}
 use Rattle.std.specs.declared.result.Result.{Result}
 use Rattle.std.specs.declared.result.Result.the-variants.{Ok, Err}
 use Rattle.std.specs.Iters.{counting}
 use Rattle.std.specs.shelf.Lists.{sum, joined}
 use Rattle.std.specs.Written.{decimal, signed}
 use Rattle.tariff.specs.declared.refusal.Refusal.{Refusal}
+use Rattle.tariff.specs.declared.rows.Sizes.{Sizes}
 use Rattle.tariff.specs.Refusals.{words as refusalWords}
 use Rattle.sharing.specs.Rule.{Meaning}
 use Rattle.sharing.specs.Rules.{down, running}
-use Rattle.lines.specs.Sizes.{sizesRefusal}
 use Rattle.lines.specs.Totals.{lineCosts}
-use Rattle.bill_rules.specs.Bill.{Figures, Lengths, bill}
+use Rattle.bill_rules.specs.Bill.{Figures, Lengths}
+use Rattle.book_rules.specs.Machine.{bookBill}
+use Rattle.book_rules.specs.Run.{State}
 use Rattle.bill_report.specs.declared.report.RuleName.{RuleName}
 use Rattle.bill_report.specs.declared.report.RuleName.the-variants.{Down, Running}
-use Rattle.bill_report.specs.Loading.{Gathered, loaded}
+use Rattle.bill_report.specs.Settling.{fileSizes, settled}
 
 abbrev pub meaningOf : RuleName → Meaning
 meaningOf Down = down
@@ -83,14 +83,15 @@ byBill n rule all (Ok f) = (true, tableOf n rule all f)
 abbrev pub evenly : ℕ → Lengths
 evenly customers = record { charges = customers; stations = customers; credits = customers }
 
-abbrev pub bySizes : ℕ → RuleName → Gathered → Option Refusal → Bool × List ℕ
-bySizes n rule g (Some e) = (false, refusedLine e)
-bySizes n rule g None =
-    byBill n rule (lineCosts n (g .costs)) (bill (meaningOf rule) n (g .sizes) (g .units) (g .costs) (evenly (g .sizes .customers)))
+-- the bill of a settled book; the free rows of its cost table hold no costs
+abbrev pub byState : ℕ → RuleName → ℕ → Result State Refusal → Bool × List ℕ
+byState n rule customers (Err e) = (false, refusedLine e)
+byState n rule customers (Ok s) =
+    byBill n rule (lineCosts n (s .costs)) (bookBill (meaningOf rule) n (s .book) (s .units) (s .costs) (evenly customers))
 
-abbrev pub byRows : ℕ → RuleName → Result Gathered Refusal → Bool × List ℕ
-byRows n rule (Err e) = (false, refusedLine e)
-byRows n rule (Ok g) = bySizes n rule g (sizesRefusal (g .sizes))
+abbrev pub bySizes : ℕ → RuleName → List ℕ → Result Sizes Refusal → Bool × List ℕ
+bySizes n rule bs (Err e) = (false, refusedLine e)
+bySizes n rule bs (Ok z) = byState n rule (z .customers) (settled z bs)
 
 abbrev pub reportOf : ℕ → RuleName → List ℕ → Bool × List ℕ
-reportOf n rule bs = byRows n rule (loaded bs)
+reportOf n rule bs = bySizes n rule bs (fileSizes bs)

@@ -11,17 +11,15 @@ ghost use Rattle.std.specs.shelf.Lists.{sum, joined};
 ghost use Rattle.std.specs.Of.String.{string-bytes};
 ghost use Rattle.std.specs.Of.Vec.{vec-items, vec-len};
 ghost use Rattle.std.specs.Vec.{made};
-ghost use Rattle.lines.specs.Checked.{sizesOf};
-ghost use Rattle.lines.specs.Sizes.{sizesRefusal};
 ghost use Rattle.lines.specs.Totals.{lineCosts};
-ghost use Rattle.bill_rules.specs.Bill.{bill};
-ghost use Rattle.bill_report.specs.Shown.{shownRows, shownFigures, shownFigured, shownReport};
+ghost use Rattle.book_rules.specs.Machine.{bookBill};
+ghost use Rattle.book.specs.Shown.{frozenBook};
+ghost use Rattle.bill_report.specs.Shown.{shownFigures, shownFigured, shownReport};
 ghost use Rattle.bill_report.specs.Report.{meaningOf, ruleWord, chargeWord, netOf, rowText, rowOf, headOf, sumText, balanceText, tableOf, refusedLine, evenly, byBill, bySizes, reportOf};
-use crate::loading::Rows;
-use crate::loading::load;
+use crate::settling::Settled;
+use crate::settling::file_sizes;
+use crate::settling::settle;
 use bill_rules::Remainders;
-use billing::line_bill;
-use lines::BookSizes;
 use lines::CostRowRow;
 use lines::Kinds;
 use lines::cell::WHOLE;
@@ -192,22 +190,20 @@ fn figures_by<R: SharingRule>(
     heap: Global,
     rule: &mut R,
     line: u8,
-    sizes: &BookSizes,
-    rows: &Rows,
+    settled: &Settled,
 ) -> Result<Result<Figured, Refusal>, AllocError>
-    ensures figures { λ r. ⌜ made r (λ got. shownFigured got ≡ bill (meaning (now (rule .entry))) line (sizesOf (now (sizes .entry))) (vec-items (now (rows .entry) .units)) (vec-items (now (rows .entry) .costs)) (evenly (sizesOf (now (sizes .entry)) .customers))) ⌝ }
-    ensures places { λ r. ⌜ made r (λ got. made got (λ f. (vec-len (f .charges) ≡ sizesOf (now (sizes .entry)) .customers) × (vec-len (f .stations) ≡ sizesOf (now (sizes .entry)) .customers) × (vec-len (f .credits) ≡ sizesOf (now (sizes .entry)) .customers))) ⌝ }
+    ensures figures { λ r. ⌜ made r (λ got. shownFigured got ≡ bookBill (meaning (now (rule .entry))) line (frozenBook (now (settled .entry) .book)) (vec-items (now (settled .entry) .units)) (vec-items (now (settled .entry) .costs)) (evenly (now (settled .entry) .sizes .customers))) ⌝ }
+    ensures places { λ r. ⌜ made r (λ got. made got (λ f. (vec-len (f .charges) ≡ now (settled .entry) .sizes .customers) × (vec-len (f .stations) ≡ now (settled .entry) .sizes .customers) × (vec-len (f .credits) ≡ now (settled .entry) .sizes .customers))) ⌝ }
 {
-    let customers = usize::from(sizes.sizes().customers);
+    let customers = usize::from(settled.sizes.customers);
     let mut charges = vec![in heap; 0u64; customers]?;
     let mut stations = vec![in heap; 0u64; customers]?;
     let mut credits = vec![in heap; 0u64; customers]?;
-    let outcome = line_bill(
+    let outcome = settled.book.bill(
         rule,
+        settled.units.as_slice(),
+        settled.costs.as_slice(),
         line,
-        sizes,
-        rows.units.as_slice(),
-        rows.costs.as_slice(),
         charges.as_mut_slice(),
         stations.as_mut_slice(),
         credits.as_mut_slice(),
@@ -227,15 +223,14 @@ fn figures_for(
     heap: Global,
     rule: RuleName,
     line: u8,
-    sizes: &BookSizes,
-    rows: &Rows,
+    settled: &Settled,
 ) -> Result<Result<Figured, Refusal>, AllocError>
-    ensures figures { λ r. ⌜ made r (λ got. shownFigured got ≡ bill (meaningOf rule) line (sizesOf (now (sizes .entry))) (vec-items (now (rows .entry) .units)) (vec-items (now (rows .entry) .costs)) (evenly (sizesOf (now (sizes .entry)) .customers))) ⌝ }
-    ensures places { λ r. ⌜ made r (λ got. made got (λ f. (vec-len (f .charges) ≡ sizesOf (now (sizes .entry)) .customers) × (vec-len (f .stations) ≡ sizesOf (now (sizes .entry)) .customers) × (vec-len (f .credits) ≡ sizesOf (now (sizes .entry)) .customers))) ⌝ }
+    ensures figures { λ r. ⌜ made r (λ got. shownFigured got ≡ bookBill (meaningOf rule) line (frozenBook (now (settled .entry) .book)) (vec-items (now (settled .entry) .units)) (vec-items (now (settled .entry) .costs)) (evenly (now (settled .entry) .sizes .customers))) ⌝ }
+    ensures places { λ r. ⌜ made r (λ got. made got (λ f. (vec-len (f .charges) ≡ now (settled .entry) .sizes .customers) × (vec-len (f .stations) ≡ now (settled .entry) .sizes .customers) × (vec-len (f .credits) ≡ now (settled .entry) .sizes .customers))) ⌝ }
 {
     match rule {
-        RuleName::Down => figures_by(heap, &mut sharing::Down, line, sizes, rows),
-        RuleName::Running => figures_by(heap, &mut sharing::Running, line, sizes, rows),
+        RuleName::Down => figures_by(heap, &mut sharing::Down, line, settled),
+        RuleName::Running => figures_by(heap, &mut sharing::Running, line, settled),
     }
 }
 
@@ -250,20 +245,14 @@ fn refused(heap: Global, refusal: Refusal) -> Result<Report, AllocError>
 }
 
 // The table of a bill, or the line for its refusal.
-fn told(
-    heap: Global,
-    line: u8,
-    rule: RuleName,
-    sizes: &BookSizes,
-    rows: &Rows,
-) -> Result<Report, AllocError>
-    ensures { λ r. ⌜ made r (λ a. shownReport a ≡ byBill line rule (lineCosts line (vec-items (now (rows .entry) .costs))) (bill (meaningOf rule) line (sizesOf (now (sizes .entry))) (vec-items (now (rows .entry) .units)) (vec-items (now (rows .entry) .costs)) (evenly (sizesOf (now (sizes .entry)) .customers)))) ⌝ }
+fn told(heap: Global, line: u8, rule: RuleName, settled: &Settled) -> Result<Report, AllocError>
+    ensures { λ r. ⌜ made r (λ a. shownReport a ≡ byBill line rule (lineCosts line (vec-items (now (settled .entry) .costs))) (bookBill (meaningOf rule) line (frozenBook (now (settled .entry) .book)) (vec-items (now (settled .entry) .units)) (vec-items (now (settled .entry) .costs)) (evenly (now (settled .entry) .sizes .customers)))) ⌝ }
 {
-    let figured = match figures_for(heap, rule, line, sizes, rows)? {
+    let figured = match figures_for(heap, rule, line, settled)? {
         Ok(figured) => figured,
         Err(refusal) => return refused(heap, refusal),
     };
-    let all = total(rows.costs.as_slice(), Kinds::Only(line), WHOLE);
+    let all = total(settled.costs.as_slice(), Kinds::Only(line), WHOLE);
     let text = table(heap, line, rule, all, &figured)?;
     Ok(Report {
         accepted: true,
@@ -271,22 +260,16 @@ fn told(
     })
 }
 
-// The same over rows whose sizes are still to be checked.
-fn told_of(heap: Global, line: u8, rule: RuleName, rows: &Rows) -> Result<Report, AllocError>
-    ensures { λ r. ⌜ made r (λ a. shownReport a ≡ bySizes line rule (shownRows (now (rows .entry))) (sizesRefusal (now (rows .entry) .sizes))) ⌝ }
-{
-    match BookSizes::check(rows.sizes) {
-        Ok(sizes) => told(heap, line, rule, &sizes, rows),
-        Err(refusal) => refused(heap, refusal),
-    }
-}
-
 // What the program answers to a line, a rule and the bytes of a unit file.
 pub fn report_on(heap: Global, line: u8, rule: RuleName, input: &[u8]) -> Result<Report, AllocError>
     ensures { λ r. ⌜ made r (λ a. shownReport a ≡ reportOf line rule (now (input .entry))) ⌝ }
 {
-    match load(heap, input)? {
-        Ok(rows) => told_of(heap, line, rule, &rows),
+    let sizes = match file_sizes(input) {
+        Ok(sizes) => sizes,
+        Err(refusal) => return refused(heap, refusal),
+    };
+    match settle(heap, sizes, input)? {
+        Ok(settled) => told(heap, line, rule, &settled),
         Err(refusal) => refused(heap, refusal),
     }
 }

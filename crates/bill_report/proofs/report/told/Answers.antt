@@ -13,7 +13,7 @@ pub returns : need.returns
 returns c =
     let n = c .args .line in
     let rule = c .args .rule in
-    let costs = vec-items (c .args .rows .now .costs) in
+    let costs = vec-items (c .args .settled .now .costs) in
     let f = shownFigures (c .in-Ok .figured) in
     let billed = ap shownFigured (sym (c .in-Ok .is)) ∙ c .in-Continue-figured .ensures tt .figures in
     let all : c .total-all .result ≡ lineCosts n costs = c .total-all .ensures .sum ∙ ap (lineCosts n) (c .as-slice .ensures .value) in
