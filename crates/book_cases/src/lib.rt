@@ -15,6 +15,7 @@ mod tests {
     use tariff::Refusal;
     use tariff::Sizes;
     use tariff::UnitRow;
+    use tariff::limits::LAST_PASS_NUMBER;
     use tariff::refusal::RefusalDebug;
     use tariff::refusal::RefusalPartialEq;
 
@@ -150,6 +151,32 @@ mod tests {
         check_eq(removed, Err(Refusal::UnknownContributor))?;
         check_eq(handed, Ok(()))?;
         check_eq(book.remove(&mut marks, 63), Err(Refusal::NotAdmitted))
+    }
+
+    fn use_numbers(book: &mut OpenBook, marks: &mut [u32], count: u32) -> Result<(), Refusal> {
+        for _ in 0..count {
+            let pass = book.admit(marks, 0)?;
+            book.hand_in(marks, pass)?;
+        }
+        Ok(())
+    }
+
+    // Each admit takes a number, and only admits lead to the last one.
+    #[test]
+    fn the_last_pass_number() -> Result<(), Fail> {
+        let mut marks = [0; 64];
+        let mut book = OpenBook::open(SIZES, 7, &mut marks)?;
+        use_numbers(&mut book, &mut marks, LAST_PASS_NUMBER - 1)?;
+        let pass = book.admit(&mut marks, 0)?;
+        let number = pass.number();
+        let handed = book.hand_in(&mut marks, pass);
+        let refused = match book.admit(&mut marks, 0) {
+            Ok(pass) => book.hand_in(&mut marks, pass),
+            Err(refusal) => Err(refusal),
+        };
+        check_eq(number, LAST_PASS_NUMBER)?;
+        check_eq(handed, Ok(()))?;
+        check_eq(refused, Err(Refusal::PassNumbersUsedUp))
     }
 
     // Both books admit the same contributor first, so the passes differ in the book alone.
