@@ -1,4 +1,6 @@
 // bill LINE RULE: the bill of a line over the unit file on standard input, as a table.
+#![tactic(auto)]
+
 ghost use Rattle.std.specs.Prelude.{◌≡◌, IfOk};
 ghost use Rattle.bill_report.specs.Report.{report_of};
 ghost use Rattle.bill_report.specs.Shown.{shown_report};

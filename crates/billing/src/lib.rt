@@ -1,4 +1,6 @@
 // The bill of a line over the rows of a book, under any sharing rule.
+#![tactic(auto)]
+
 mod basis;
 mod charges;
 mod columns;

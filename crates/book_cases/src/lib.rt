@@ -1,5 +1,7 @@
 // Cases at the edges of a book. A pass cannot be let go, so each test keeps the answers, hands its
 // passes in, and then looks at the answers.
+#![tactic(auto)]
+
 #[cfg(test)]
 mod tests {
     use bill_rules::Remainders;

@@ -1,4 +1,6 @@
 // Bytes and decimal numbers, written into a caller's buffer.
+#![tactic(auto)]
+
 ghost use Rattle.std.specs.Prelude.{◌≡◌, ◌+◌, ◌^◌, ◌<◌, ◌≤◌, length, decimal, nat_lt};
 ghost use Rattle.std.specs.Fmt.{signed_decimal};
 ghost use Rattle.tariff.specs.Refusals.{answer, unless};

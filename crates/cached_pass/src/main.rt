@@ -1,6 +1,8 @@
 // The story of the cached pass. A contractor is taken off the project; for four days the pass that
 // the contractor still holds is tried on the book; the book and its bill stay as they were. Each
 // call is printed with its answer.
+#![tactic(auto)]
+
 mod said;
 
 ghost use Rattle.std.specs.Prelude.{◌≡◌, false};

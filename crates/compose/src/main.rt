@@ -1,4 +1,6 @@
 // compose: the text form of a unit file on standard input becomes the file on standard output.
+#![tactic(auto)]
+
 ghost use Rattle.std.specs.Prelude.{◌≡◌, IfOk};
 ghost use Rattle.unit_file.specs.Laws.{ReadBack};
 ghost use Rattle.unit_text.specs.Composing.{composed, filed, Restored};

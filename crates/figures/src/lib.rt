@@ -1,4 +1,6 @@
 // Figures worked by hand: the definitions give them, and so do the calls.
+#![tactic(auto)]
+
 ghost use Rattle.std.specs.Prelude.{◌≡◌, [], ◌∷◌, pos, Ok};
 ghost use Rattle.figures.specs.Worked.{WorkedFigures};
 

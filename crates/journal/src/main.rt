@@ -1,5 +1,7 @@
 // journal: makes the calls on standard input, one a line, on a book of its own, and prints the answer
 // to each.
+#![tactic(auto)]
+
 ghost use Rattle.sharing.specs.Rule.{Lawful};
 ghost use Rattle.sharing.specs.Rules.{down, running};
 ghost use Rattle.journal_book.specs.Shown.{rules_for};

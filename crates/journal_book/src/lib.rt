@@ -1,5 +1,7 @@
 // A journal of calls, replayed on a book of its own: it keeps the book, its tables and the passes that
 // the book gave it.
+#![tactic(auto)]
+
 mod frozen_calls;
 mod journal;
 mod open_calls;

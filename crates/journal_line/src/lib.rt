@@ -1,4 +1,6 @@
 // One line of a journal of calls to a book: the call that it says.
+#![tactic(auto)]
+
 pub mod calls;
 pub mod parsing;
 

@@ -1,4 +1,6 @@
 // A journal of calls, read line by line.
+#![tactic(auto)]
+
 mod session;
 mod states;
 

@@ -1,4 +1,6 @@
 // The bill of a line as rows of text, in a caller's buffer.
+#![tactic(auto)]
+
 mod parts;
 mod rows;
 

@@ -1,4 +1,6 @@
 // The lines of the schedule, the cells of a line, totals over rows, and which rows a book allows.
+#![tactic(auto)]
+
 pub mod cell;
 pub mod line;
 pub mod rows;

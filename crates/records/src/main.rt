@@ -1,4 +1,6 @@
 // records: a unit file on standard input is listed as text, one record a line.
+#![tactic(auto)]
+
 ghost use Rattle.std.specs.Prelude.{◌≡◌, IfOk};
 ghost use Rattle.unit_file.specs.Laws.{Rewritten};
 ghost use Rattle.unit_file.specs.Reading.{contents_of};

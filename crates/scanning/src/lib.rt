@@ -1,4 +1,6 @@
 // Words and numbers at the front of a text.
+#![tactic(auto)]
+
 ghost use Rattle.std.specs.Prelude.{◌≡◌, ◌≤◌, IfSome};
 ghost use Rattle.scanning.specs.Scanning.{after_word, is_digit, number_in, field_in};
 ghost use Rattle.std.specs.Option.{option_map};

@@ -1,5 +1,7 @@
 // A unit file settled in a book of its own: opened with the file's sizes, loaded through one pass
 // and frozen.
+#![tactic(auto)]
+
 ghost use Rattle.std.specs.Prelude.{◌≡◌};
 ghost use Rattle.book_rules.specs.Run.{opened};
 ghost use Rattle.book.specs.Shown.{open_book};

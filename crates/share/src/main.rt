@@ -1,5 +1,7 @@
 // Divides a pool of cents among customers by their units, by both rules: reads the pool and the
 // units from standard input, and prints a table, or one line that says why there is none.
+#![tactic(auto)]
+
 ghost use Rattle.std.specs.Prelude.{◌≡◌, IfOk};
 ghost use Rattle.share_report.specs.Report.{report_of};
 ghost use Rattle.share_report.specs.Shown.{shown_report};

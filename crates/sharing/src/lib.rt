@@ -1,4 +1,6 @@
 // Sharing rules: a pool of cents is shared among customers by their units.
+#![tactic(auto)]
+
 ghost use Rattle.std.specs.Prelude.{◌≡◌, ◌*◌, ◌/◌, ◌^◌, ◌<◌, ◌≤◌, length, sum};
 ghost use Rattle.tariff.specs.Limits.{most_amount, most_customers};
 ghost use Rattle.tariff.specs.Refusals.{answer, unless};

@@ -1,3 +1,5 @@
+#![tactic(auto)]
+
 ghost use Rattle.std.proofs.Common.{rules};
 
 // Cases at the edges of the sharing rules and of the program `share`.

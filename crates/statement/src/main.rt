@@ -1,4 +1,6 @@
 // statement: the statement of the unit file on standard input.
+#![tactic(auto)]
+
 ghost use Rattle.std.specs.Prelude.{◌≡◌, IfOk};
 ghost use Rattle.statement_report.specs.Statement.{statement_of};
 

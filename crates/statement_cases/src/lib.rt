@@ -1,4 +1,6 @@
 // Cases of the statement, and of the decimal numbers in it. It has tests only.
+#![tactic(auto)]
+
 #[cfg(test)]
 mod decimals;
 #[cfg(test)]

@@ -1,5 +1,7 @@
 // The statement of a unit file: the bill of each line with costs, by Running, as text in a caller's
 // buffer.
+#![tactic(auto)]
+
 ghost use Rattle.std.specs.Prelude.{◌≡◌, ℕ, ◌+◌, ◌≤◌, true, false, List, length, IfOk, nat_lt};
 ghost use Rattle.lines.specs.Totals.{line_costs};
 ghost use Rattle.tariff.specs.Refusals.{answer, unless};

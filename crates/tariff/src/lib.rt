@@ -1,4 +1,6 @@
 // The vocabulary of the package: rows, sizes, limits, and the refusals that every call shares.
+#![tactic(auto)]
+
 pub mod limits;
 pub mod refusal;
 pub mod rows;

@@ -1,4 +1,6 @@
 // Plain text: its words, and the numbers that they write.
+#![tactic(auto)]
+
 ghost use Rattle.std.specs.Prelude.{◌≡◌, ◌^◌, true, if◌then◌else◌, Some, None, nat_lt};
 ghost use Rattle.std.specs.List.{prefix_len};
 ghost use Rattle.text.specs.Words.{blank, is_run, all_digits, value_from, number_of, fault_words, Next};

@@ -1,4 +1,6 @@
 // The unit file: its records, a reader that moves through borrowed bytes, and a writer.
+#![tactic(auto)]
+
 pub mod reader;
 pub mod record;
 pub mod writer;
