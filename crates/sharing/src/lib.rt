@@ -120,10 +120,10 @@ pub fn divide<R: SharingRule>(
     units: &[u32],
     column: &mut [u32],
 ) -> Result<Division, Refusal>
-    ensures answers { result ≡ answer (share_refusal pool units.now (length column.old)) (division (meaning rule.old) pool units.now) }
-    ensures writes { column.new ≡ unless (share_refusal pool units.now (length column.old)) column.old (meaning rule.old pool units.now) }
-    ensures means { meaning rule.new ≡ meaning rule.old }
-    ensures lawful { Lawful (meaning rule.old) }
+    ensures answers { result ≡ answer (share_refusal pool units.now (length column.old)) (division (R.meaning rule.old) pool units.now) }
+    ensures writes { column.new ≡ unless (share_refusal pool units.now (length column.old)) column.old (R.meaning rule.old pool units.now) }
+    ensures means { R.meaning rule.new ≡ R.meaning rule.old }
+    ensures lawful { Lawful (R.meaning rule.old) }
     ensures laws { LawsOfSharing }
 {
     rule.share(pool, units, column)?;
