@@ -10,6 +10,7 @@ NAME = re.compile(r"[A-Za-z_α-ωΑ-Ω][\w'′-]*")
 DECLARES = re.compile(r"^(?:pub )?(?:unfoldable )?(?:abbrev )?(?:pub )?([A-Za-z_][^\s:(){}]*) :(?: (.*))?$")
 TYPES = re.compile(r"^(?:pub )?(?:record|data) (?:pub )?([^\s:(){}]+)")
 FIELD = re.compile(r"^\s+pub ([A-Za-z_][^\s:(){}]*) :")
+CAMEL = re.compile(r"(?<![\w'-])[a-z]{2}[a-z0-9]*(?:[A-Z][a-z0-9]*)+(?![\w'-])")
 MEMBER = re.compile(r"^\s+\|?\s*([A-Za-z_][^\s:(){},.]*) :")
 # Lemmas and fields that would fall together with a definition: the definition keeps the plain name. Each stands
 # with the folder in which the old name is meant.
@@ -17,6 +18,7 @@ APART = {
     ('crates/statement_report', 'with-costs'): 'with_costs_made',
     ('crates/book/', 'told-figures'): 'told_figures_is',
     ('crates/line_rows', 'station-most'): 'station_most_holds',
+    ('crates/line_rows', 'row-bytes'): 'row_bytes_within',
     ('crates/line_rows', 'station-digits'): 'station_digits_hold',
     ('crates/statement_report', 'refused-text'): 'refused_text_is',
     ('crates/unit_text', 'on-digits'): 'on_digits_is',
@@ -74,6 +76,7 @@ def own_names():
     for path in files('.antt'):
         text = read(path)
         generated = goals_of(text)
+        words |= set(CAMEL.findall(text)) - generated
         kind = None
         for line in text.split('\n'):
             if line and not line[0].isspace():

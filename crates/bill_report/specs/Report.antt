@@ -14,7 +14,7 @@ use Rattle.std.specs.List.{range_with_len, flat_map}
 use Rattle.std.specs.Fmt.{signed_decimal}
 use Rattle.tariff.specs.declared.refusal.Refusal.{Refusal}
 use Rattle.tariff.specs.declared.rows.Sizes.{Sizes}
-use Rattle.tariff.specs.Refusals.{words as refusalWords}
+use Rattle.tariff.specs.Refusals.{words as refusal_words}
 use Rattle.sharing.specs.Rule.{Meaning}
 use Rattle.sharing.specs.Rules.{down, running}
 use Rattle.lines.specs.Totals.{line_costs}
@@ -65,7 +65,7 @@ table_of n rule all f =
     ++ (sum_text (sum f.charges) (sum f.stations) (sum f.credits) ++ balance_text f.short f.over f.stranded all)
 
 abbrev pub refused_line : Refusal → List ℕ
-refused_line e = codes "bill: " ++ (refusalWords e ++ codes "\n")
+refused_line e = codes "bill: " ++ (refusal_words e ++ codes "\n")
 
 abbrev pub by_bill : ℕ → RuleName → ℕ → Result Figures Refusal → Bool × List ℕ
 by_bill n rule all (Err e) = (false, refused_line e)

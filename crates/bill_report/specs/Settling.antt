@@ -17,7 +17,7 @@ use Rattle.tariff.specs.Limits.{contributors}
 use Rattle.tariff.specs.Refusals.{answer}
 use Rattle.lines.specs.Rows.{no_units, no_cost}
 use Rattle.unit_file.specs.Records.{Item}
-use Rattle.unit_file.specs.Reading.{open_refusal as fileRefusal, record_at}
+use Rattle.unit_file.specs.Reading.{open_refusal as file_refusal, record_at}
 use Rattle.book_rules.specs.Machine.{Pass, new_pass, open_refusal}
 use Rattle.book_rules.specs.Run.{State, admit, hand_in, freeze, step, final, at_opening}
 use Rattle.book.specs.Load.{refusal_in, header_in, load_of}
@@ -28,7 +28,7 @@ sizes_in None (Err e) = Err e
 sizes_in None (Ok first) = header_in first
 
 abbrev pub file_sizes : List ℕ → Result Sizes Refusal
-file_sizes bytes = sizes_in (fileRefusal bytes) (record_at bytes 1)
+file_sizes bytes = sizes_in (file_refusal bytes) (record_at bytes 1)
 
 abbrev pub or_else : Option Refusal → Result State Refusal → Result State Refusal
 or_else (Some e) after = Err e

@@ -172,7 +172,7 @@ fn figures_by<R: SharingRule>(
     line: u8,
     settled: &Settled,
 ) -> Result<Result<Figured, Refusal>, AllocError>
-    ensures figures { IfOk result (λ got. shown_figured got ≡ book_bill (meaning rule.old) line (frozen_book settled.now.book) settled.now.units.items settled.now.costs.items (evenly settled.now.sizes.customers)) }
+    ensures figures { IfOk result (λ got. shown_figured got ≡ book_bill (R.meaning rule.old) line (frozen_book settled.now.book) settled.now.units.items settled.now.costs.items (evenly settled.now.sizes.customers)) }
     ensures places { IfOk result (λ got. IfOk got (λ f. (vec_len f.charges ≡ settled.now.sizes.customers) × (vec_len f.stations ≡ settled.now.sizes.customers) × (vec_len f.credits ≡ settled.now.sizes.customers))) }
 {
     let customers = usize::from(settled.sizes.customers);

@@ -24,7 +24,7 @@ use Rattle.lines.specs.Totals.{part, unit_place, cost_line, cost_place, cost_amo
 use Rattle.lines.specs.Rows.{unlawful_unit, unlawful_cost, unit_fault, cost_fault, unit_faults, cost_faults, no_units, no_cost}
 use Rattle.lines.proofs.Firsts.{first_append, first_fails}
 use Rattle.sharing.specs.Rule.{Meaning, Lawful}
-use Rattle.bill_rules.specs.Bill.{sum_z, Figures, unit_part, units_of, station_units_of, pool, counted, shares, share_of, short_of, strandedOf, stationUnits, stationOf, recovered, creditsIn, creditOf, overOf, column, figures, tooLargeAt, tooLarge, figures_for, too_large_for, Lengths, misfit, bill_refusal, bill}
+use Rattle.bill_rules.specs.Bill.{sum_z, Figures, unit_part, units_of, station_units_of, pool, counted, shares, share_of, short_of, stranded_of, station_units, station_of, recovered, credits_in, credit_of, over_of, column, figures, too_large_at, too_large, figures_for, too_large_for, Lengths, misfit, bill_refusal, bill}
 use Rattle.bill_rules.specs.Laws.{Balances, LawfulRows, AgreeOn, Agree, LawsOfBilling}
 use Rattle.bill_rules.proofs.Sums.{sum_by_zero, sum_by_eq, sum_by_same, sum_by_swap, sum_z_same}
 use Rattle.bill_rules.proofs.Cells.{OneOf, on_axis, over_hours, grid}
@@ -172,7 +172,7 @@ module _ (m : Meaning) (l : Line) (z : Sizes) (us us' : List UnitRow) (cs cs' : 
     units : (k : ℕ) → k < z.customers → units_of l.counted us c k ≡ units_of l.counted us' c k
 
   abbrev SameStation : Cell → Type 0
-  SameStation d = (k : ℕ) → k < z.customers → stationUnits m l z us cs k d ≡ stationUnits m l z us' cs' k d
+  SameStation d = (k : ℕ) → k < z.customers → station_units m l z us cs k d ≡ station_units m l z us' cs' k d
 
   same_counted : (c : Cell) → Same c → counted m l z us cs c ≡ counted m l z us' cs' c
   same_counted c s = map_same (units_of l.counted us c) (units_of l.counted us' c) (range_with_len 0 z.customers) (all_counting (λ k. units_of l.counted us c k ≡ units_of l.counted us' c k) z.customers s.units)
@@ -186,21 +186,21 @@ module _ (m : Meaning) (l : Line) (z : Sizes) (us us' : List UnitRow) (cs cs' : 
       ∙ ap (λ C. cond (eqb (sum (counted m l z us' cs' c)) 0) (pos 0) (pos C -ℤ pos (sum (shares m l z us cs c)))) s.pools
       ∙ ap (λ xs. cond (eqb (sum (counted m l z us' cs' c)) 0) (pos 0) (pos (pool m l z us' cs' c) -ℤ pos (sum xs))) (same_shares c s)
 
-  same_stranded : (c : Cell) → Same c → strandedOf m l z us cs c ≡ strandedOf m l z us' cs' c
+  same_stranded : (c : Cell) → Same c → stranded_of m l z us cs c ≡ stranded_of m l z us' cs' c
   same_stranded c s =
       ap (λ ks. cond (eqb (sum ks) 0) (pool m l z us cs c) 0) (same_counted c s)
       ∙ ap (λ C. cond (eqb (sum (counted m l z us' cs' c)) 0) C 0) s.pools
 
-  same_station : (d : Cell) → Same d → SameStation d → (k : ℕ) → k < z.customers → stationOf m l z us cs k d ≡ stationOf m l z us' cs' k d
+  same_station : (d : Cell) → Same d → SameStation d → (k : ℕ) → k < z.customers → station_of m l z us cs k d ≡ station_of m l z us' cs' k d
   same_station d s t k lt =
-      ap (λ C. C * stationUnits m l z us cs k d / sum (counted m l z us cs d)) s.pools
+      ap (λ C. C * station_units m l z us cs k d / sum (counted m l z us cs d)) s.pools
       ∙ ap (λ x. pool m l z us' cs' d * x / sum (counted m l z us cs d)) (t k lt)
-      ∙ ap (λ ks. pool m l z us' cs' d * stationUnits m l z us' cs' k d / sum ks) (same_counted d s)
+      ∙ ap (λ ks. pool m l z us' cs' d * station_units m l z us' cs' k d / sum ks) (same_counted d s)
 
   same_recovered : (d : Cell) → Same d → SameStation d → recovered m l z us cs d ≡ recovered m l z us' cs' d
-  same_recovered d s t = sum_by_same (λ k. stationOf m l z us cs k d) (λ k. stationOf m l z us' cs' k d) (range_with_len 0 z.customers) (all_counting (λ k. stationOf m l z us cs k d ≡ stationOf m l z us' cs' k d) z.customers (same_station d s t))
+  same_recovered d s t = sum_by_same (λ k. station_of m l z us cs k d) (λ k. station_of m l z us' cs' k d) (range_with_len 0 z.customers) (all_counting (λ k. station_of m l z us cs k d ≡ station_of m l z us' cs' k d) z.customers (same_station d s t))
 
-  same_credits : (d : Cell) → Same d → SameStation d → creditsIn m l z us cs d ≡ creditsIn m l z us' cs' d
+  same_credits : (d : Cell) → Same d → SameStation d → credits_in m l z us cs d ≡ credits_in m l z us' cs' d
   same_credits d s t = ap (λ R. m R (counted m l z us cs d)) (same_recovered d s t) ∙ ap (m (recovered m l z us' cs' d)) (same_counted d s)
 
   same_column : (f g : ℕ → Cell → ℕ) (ds : List Cell) → All (λ d. (k : ℕ) → k < z.customers → f k d ≡ g k d) ds → column m l z us cs f ds ≡ column m l z us' cs' g ds
@@ -212,22 +212,22 @@ module _ (m : Meaning) (l : Line) (z : Sizes) (us us' : List UnitRow) (cs cs' : 
   same_figures at on =
       let ds = station_days l z in
       let a = same_column (share_of m l z us cs) (share_of m l z us' cs') (cells l z) (All-weaker Same (λ c. (k : ℕ) → k < z.customers → share_of m l z us cs k c ≡ share_of m l z us' cs' k c) (λ c s k lt. ap (λ xs. get_or xs k 0) (same_shares c s)) (cells l z) at) in
-      let b = same_column (stationOf m l z us cs) (stationOf m l z us' cs') ds (All-weaker (λ d. Same d × SameStation d) (λ d. (k : ℕ) → k < z.customers → stationOf m l z us cs k d ≡ stationOf m l z us' cs' k d) (λ d s. same_station d s.0 s.1) ds on) in
-      let c = same_column (creditOf m l z us cs) (creditOf m l z us' cs') ds (All-weaker (λ d. Same d × SameStation d) (λ d. (k : ℕ) → k < z.customers → creditOf m l z us cs k d ≡ creditOf m l z us' cs' k d) (λ d s k lt. ap (λ xs. get_or xs k 0) (same_credits d s.0 s.1)) ds on) in
+      let b = same_column (station_of m l z us cs) (station_of m l z us' cs') ds (All-weaker (λ d. Same d × SameStation d) (λ d. (k : ℕ) → k < z.customers → station_of m l z us cs k d ≡ station_of m l z us' cs' k d) (λ d s. same_station d s.0 s.1) ds on) in
+      let c = same_column (credit_of m l z us cs) (credit_of m l z us' cs') ds (All-weaker (λ d. Same d × SameStation d) (λ d. (k : ℕ) → k < z.customers → credit_of m l z us cs k d ≡ credit_of m l z us' cs' k d) (λ d s k lt. ap (λ xs. get_or xs k 0) (same_credits d s.0 s.1)) ds on) in
       let d = sum_z_same (short_of m l z us cs) (short_of m l z us' cs') (cells l z) (All-weaker Same (λ c. short_of m l z us cs c ≡ short_of m l z us' cs' c) same_short (cells l z) at) in
-      let e = sum_z_same (overOf m l z us cs) (overOf m l z us' cs') ds (All-weaker (λ d. Same d × SameStation d) (λ d. overOf m l z us cs d ≡ overOf m l z us' cs' d)
-      (λ d s. ap (λ R. pos R -ℤ pos (sum (creditsIn m l z us cs d))) (same_recovered d s.0 s.1) ∙ ap (λ xs. pos (recovered m l z us' cs' d) -ℤ pos (sum xs)) (same_credits d s.0 s.1)) ds on) in
-      let f = sum_by_same (strandedOf m l z us cs) (strandedOf m l z us' cs') (cells l z) (All-weaker Same (λ c. strandedOf m l z us cs c ≡ strandedOf m l z us' cs' c) same_stranded (cells l z) at) in
+      let e = sum_z_same (over_of m l z us cs) (over_of m l z us' cs') ds (All-weaker (λ d. Same d × SameStation d) (λ d. over_of m l z us cs d ≡ over_of m l z us' cs' d)
+      (λ d s. ap (λ R. pos R -ℤ pos (sum (credits_in m l z us cs d))) (same_recovered d s.0 s.1) ∙ ap (λ xs. pos (recovered m l z us' cs' d) -ℤ pos (sum xs)) (same_credits d s.0 s.1)) ds on) in
+      let f = sum_by_same (stranded_of m l z us cs) (stranded_of m l z us' cs') (cells l z) (All-weaker Same (λ c. stranded_of m l z us cs c ≡ stranded_of m l z us' cs' c) same_stranded (cells l z) at) in
       together a b c d e f
     where
       together : {a a' b b' c c' : List ℕ} {d d' e e' : ℤ} {f f' : ℕ} → a ≡ a' → b ≡ b' → c ≡ c' → d ≡ d' → e ≡ e' → f ≡ f' →
           ◌≡◌ {A = Figures} (record { charges = a; stations = b; credits = c; short = d; over = e; stranded = pos f }) (record { charges = a'; stations = b'; credits = c'; short = d'; over = e'; stranded = pos f' })
       together a b c d e f = cc
 
-  same_too_large : All (λ d. Same d × SameStation d) (station_days l z) → tooLarge m l z us cs ≡ tooLarge m l z us' cs'
+  same_too_large : All (λ d. Same d × SameStation d) (station_days l z) → too_large m l z us cs ≡ too_large m l z us' cs'
   same_too_large on =
-      map_same (tooLargeAt m l z us cs) (tooLargeAt m l z us' cs') (station_days l z)
-      (All-weaker (λ d. Same d × SameStation d) (λ (d : Cell). tooLargeAt m l z us cs d ≡ tooLargeAt m l z us' cs' d)
+      map_same (too_large_at m l z us cs) (too_large_at m l z us' cs') (station_days l z)
+      (All-weaker (λ d. Same d × SameStation d) (λ (d : Cell). too_large_at m l z us cs d ≡ too_large_at m l z us' cs' d)
       (λ d s. let test : ℕ → Bool × Refusal = λ R. (ltb most_amount R, StationChargesTooLarge d.area d.day) in ap test (same_recovered d s.0 s.1)) (station_days l z) on)
 
   -- cells that agree make days that agree

@@ -21,7 +21,7 @@ use Rattle.lines.specs.Cells.{holds, axis, areas, days, hours, cells, station_da
 use Rattle.lines.specs.Totals.{part, cost_line, cost_place, cost_amount, cost_in, line_costs}
 use Rattle.lines.specs.Rows.{wrong, unlawful_for, unlawful_cost}
 use Rattle.sharing.specs.Rule.{Meaning, Lawful}
-use Rattle.bill_rules.specs.Bill.{sum_z, Figures, units_of, pool, counted, shares, share_of, short_of, strandedOf, stationUnits, stationOf, recovered, creditsIn, creditOf, overOf, column, figures}
+use Rattle.bill_rules.specs.Bill.{sum_z, Figures, units_of, pool, counted, shares, share_of, short_of, stranded_of, station_units, station_of, recovered, credits_in, credit_of, over_of, column, figures}
 use Rattle.bill_rules.specs.Laws.{Balances, Near, Close}
 use Rattle.bill_rules.proofs.Sums.{sum_by_zero, sum_by_eq, sum_by_same, sum_by_swap, sum_places, sums_balance}
 use Rattle.bill_rules.proofs.Cells.{on_axis, in_one}
@@ -101,7 +101,7 @@ module _ (m : Meaning) (law : Lawful m) (l : Line) (z : Sizes) (units : List Uni
       (λ c. sum_places (m (C c) (counted m l z units costs c)) z.customers (many (C c) c))
 
   -- the shares of a cell, with what is short or stranded, are its pool
-  cell_balance : (c : Cell) → (pos (sum (shares m l z units costs c)) +ℤ short_of m l z units costs c) +ℤ pos (strandedOf m l z units costs c) ≡ pos (pool m l z units costs c)
+  cell_balance : (c : Cell) → (pos (sum (shares m l z units costs c)) +ℤ short_of m l z units costs c) +ℤ pos (stranded_of m l z units costs c) ≡ pos (pool m l z units costs c)
   cell_balance c = go (eqb (sum (counted m l z units costs c)) 0) refl
     where
       go : (b : Bool) → eqb (sum (counted m l z units costs c)) 0 ≡ b →
@@ -115,19 +115,19 @@ module _ (m : Meaning) (law : Lawful m) (l : Line) (z : Sizes) (units : List Uni
       (pos (sum (figures m l z units costs).charges) +ℤ (figures m l z units costs).short) +ℤ (figures m l z units costs).stranded ≡ pos (line_costs n costs)
   charges_balance n is all =
       ap (λ x. (pos x +ℤ (figures m l z units costs).short) +ℤ (figures m l z units costs).stranded) (column_sum (pool m l z units costs) (cells l z))
-      ∙ sums_balance (λ c. sum (shares m l z units costs c)) (strandedOf m l z units costs) (pool m l z units costs) (short_of m l z units costs) (cells l z) cell_balance
+      ∙ sums_balance (λ c. sum (shares m l z units costs c)) (stranded_of m l z units costs) (pool m l z units costs) (short_of m l z units costs) (cells l z) cell_balance
       ∙ ap pos (ap (λ k. sum_by (cost_in k costs) (cells l z)) (sym (line_found n l is)) ∙ costs_once l n z costs is all)
 
-  station_sum : (ds : List Cell) → sum (column m l z units costs (stationOf m l z units costs) ds) ≡ sum_by (recovered m l z units costs) ds
+  station_sum : (ds : List Cell) → sum (column m l z units costs (station_of m l z units costs) ds) ≡ sum_by (recovered m l z units costs) ds
   station_sum ds =
-      sum-map (λ k. sum_by (stationOf m l z units costs k) ds) (range_with_len 0 z.customers)
-      ∙ sum_by_swap (λ k d. stationOf m l z units costs k d) (range_with_len 0 z.customers) ds
+      sum-map (λ k. sum_by (station_of m l z units costs k) ds) (range_with_len 0 z.customers)
+      ∙ sum_by_swap (λ k d. station_of m l z units costs k d) (range_with_len 0 z.customers) ds
 
-  credits_of : (ds : List Cell) → (pos (sum (column m l z units costs (creditOf m l z units costs) ds)) +ℤ sum_z (overOf m l z units costs) ds) +ℤ pos 0 ≡ pos (sum (column m l z units costs (stationOf m l z units costs) ds))
+  credits_of : (ds : List Cell) → (pos (sum (column m l z units costs (credit_of m l z units costs) ds)) +ℤ sum_z (over_of m l z units costs) ds) +ℤ pos 0 ≡ pos (sum (column m l z units costs (station_of m l z units costs) ds))
   credits_of ds =
-      ap (λ x. (pos x +ℤ sum_z (overOf m l z units costs) ds) +ℤ pos 0) (column_sum (recovered m l z units costs) ds)
-      ∙ ap (λ x. (pos (sum_by (λ d. sum (creditsIn m l z units costs d)) ds) +ℤ sum_z (overOf m l z units costs) ds) +ℤ pos x) (sym (sum_by_zero ds))
-      ∙ sums_balance (λ d. sum (creditsIn m l z units costs d)) (λ _. 0) (recovered m l z units costs) (overOf m l z units costs) ds (λ d. omega (arith, ints))
+      ap (λ x. (pos x +ℤ sum_z (over_of m l z units costs) ds) +ℤ pos 0) (column_sum (recovered m l z units costs) ds)
+      ∙ ap (λ x. (pos (sum_by (λ d. sum (credits_in m l z units costs d)) ds) +ℤ sum_z (over_of m l z units costs) ds) +ℤ pos x) (sym (sum_by_zero ds))
+      ∙ sums_balance (λ d. sum (credits_in m l z units costs d)) (λ _. 0) (recovered m l z units costs) (over_of m l z units costs) ds (λ d. omega (arith, ints))
       ∙ ap pos (sym (station_sum ds))
 
   -- the credits, with what is over, are the station charges
@@ -165,6 +165,6 @@ module _ (m : Meaning) (law : Lawful m) (l : Line) (z : Sizes) (units : List Uni
   pub close : Close m l z units costs
   close = record {
     shares = λ c k lt. rule_near (pool m l z units costs c) c k lt;
-    stations = λ d k lt. quotient_near (pool m l z units costs d) (stationUnits m l z units costs k d) (sum (counted m l z units costs d));
+    stations = λ d k lt. quotient_near (pool m l z units costs d) (station_units m l z units costs k d) (sum (counted m l z units costs d));
     credits = λ d k lt. rule_near (recovered m l z units costs d) d k lt;
   }

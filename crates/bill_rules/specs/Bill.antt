@@ -3,15 +3,15 @@
 --   Figures               what a bill comes to
 --   pool, counted         the costs of a cell, and each customer's counted units
 --   share_of               what a customer is charged of a cell
---   short_of, strandedOf   what a cell leaves of its pool: with units, and without
+--   short_of, stranded_of   what a cell leaves of its pool: with units, and without
 --   station_charge         what station units are charged of a day's costs
---   stationUnits, stationOf   a customer's station units of an area and day, and its station charge
+--   station_units, station_of   a customer's station units of an area and day, and its station charge
 --   recovered             R, the station charges of all customers
---   creditOf, overOf      what a customer is credited of R, and R less the credits
+--   credit_of, over_of      what a customer is credited of R, and R less the credits
 --   column                one figure a customer, added up over some cells
 --   figures               the figures of a line
 --   Lengths, misfit       the places of the three columns, and whether they are not one a customer
---   tooLarge              the tests of R, in the order of areas and then days
+--   too_large              the tests of R, in the order of areas and then days
 --   bill_refusal           when a bill is refused
 --   bill                  the bill: the first refusal, or the figures
 --   told, column_after     what a bill answers beside its columns, and what it leaves in one
@@ -82,27 +82,27 @@ module _ (meaning : Meaning) (l : Line) (z : Sizes) (units : List UnitRow) (cost
   short_of c = cond (sum (counted c) == 0) (pos 0) (pos (pool c) -ℤ pos (sum (shares c)))
 
   -- all of C, where there are none
-  abbrev pub strandedOf : Cell → ℕ
-  strandedOf c = cond (sum (counted c) == 0) (pool c) 0
+  abbrev pub stranded_of : Cell → ℕ
+  stranded_of c = cond (sum (counted c) == 0) (pool c) 0
 
   -- the station part, of an area and day: its costs and units are those of all hours
-  abbrev pub stationUnits : ℕ → Cell → ℕ
-  stationUnits k d = station_units_of l.station units d k
+  abbrev pub station_units : ℕ → Cell → ℕ
+  station_units k d = station_units_of l.station units d k
 
-  abbrev pub stationOf : ℕ → Cell → ℕ
-  stationOf k d = station_charge (pool d) (stationUnits k d) (sum (counted d))
+  abbrev pub station_of : ℕ → Cell → ℕ
+  station_of k d = station_charge (pool d) (station_units k d) (sum (counted d))
 
   abbrev pub recovered : Cell → ℕ
-  recovered d = sum_by (λ k. stationOf k d) (range_with_len 0 z.customers)
+  recovered d = sum_by (λ k. station_of k d) (range_with_len 0 z.customers)
 
-  abbrev pub creditsIn : Cell → List ℕ
-  creditsIn d = meaning (recovered d) (counted d)
+  abbrev pub credits_in : Cell → List ℕ
+  credits_in d = meaning (recovered d) (counted d)
 
-  abbrev pub creditOf : ℕ → Cell → ℕ
-  creditOf k d = slice_index (creditsIn d) k
+  abbrev pub credit_of : ℕ → Cell → ℕ
+  credit_of k d = slice_index (credits_in d) k
 
-  abbrev pub overOf : Cell → ℤ
-  overOf d = pos (recovered d) -ℤ pos (sum (creditsIn d))
+  abbrev pub over_of : Cell → ℤ
+  over_of d = pos (recovered d) -ℤ pos (sum (credits_in d))
 
   abbrev pub column : (ℕ → Cell → ℕ) → List Cell → List ℕ
   column f cs = map (λ k. sum_by (f k) cs) (range_with_len 0 z.customers)
@@ -110,18 +110,18 @@ module _ (meaning : Meaning) (l : Line) (z : Sizes) (units : List UnitRow) (cost
   abbrev pub figures : Figures
   figures = record {
     charges = column share_of (cells l z);
-    stations = column stationOf (station_days l z);
-    credits = column creditOf (station_days l z);
+    stations = column station_of (station_days l z);
+    credits = column credit_of (station_days l z);
     short = sum_z short_of (cells l z);
-    over = sum_z overOf (station_days l z);
-    stranded = pos (sum_by strandedOf (cells l z));
+    over = sum_z over_of (station_days l z);
+    stranded = pos (sum_by stranded_of (cells l z));
   }
 
-  abbrev pub tooLargeAt : Cell → Bool × Refusal
-  tooLargeAt d = (nat_lt most_amount (recovered d), StationChargesTooLarge d.area d.day)
+  abbrev pub too_large_at : Cell → Bool × Refusal
+  too_large_at d = (nat_lt most_amount (recovered d), StationChargesTooLarge d.area d.day)
 
-  abbrev pub tooLarge : List (Bool × Refusal)
-  tooLarge = map tooLargeAt (station_days l z)
+  abbrev pub too_large : List (Bool × Refusal)
+  too_large = map too_large_at (station_days l z)
 
 pub record Lengths : Type 0 where
   pub charges : ℕ
@@ -141,7 +141,7 @@ figures_for m (Some l) z units costs = figures m l z units costs
 
 abbrev pub too_large_for : Meaning → Option Line → Sizes → List UnitRow → List CostRow → List (Bool × Refusal)
 too_large_for m None z units costs = []
-too_large_for m (Some l) z units costs = tooLarge m l z units costs
+too_large_for m (Some l) z units costs = too_large m l z units costs
 
 -- the columns, the line, each unit row, each cost row, each R
 abbrev pub bill_refusal : Meaning → ℕ → Sizes → List UnitRow → List CostRow → Lengths → Option Refusal

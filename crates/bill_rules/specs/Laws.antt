@@ -18,7 +18,7 @@ use Rattle.lines.specs.Cells.{cells, station_days}
 use Rattle.lines.specs.Totals.{cost_in, line_costs}
 use Rattle.lines.specs.Rows.{unit_faults, cost_faults}
 use Rattle.sharing.specs.Rule.{Meaning, Lawful}
-use Rattle.bill_rules.specs.Bill.{units_of, station_units_of, Figures, pool, counted, share_of, stationUnits, stationOf, recovered, creditOf, Lengths, bill}
+use Rattle.bill_rules.specs.Bill.{units_of, station_units_of, Figures, pool, counted, share_of, station_units, station_of, recovered, credit_of, Lengths, bill}
 
 abbrev pub Balanced : ℕ → ℕ → ℕ → ℤ → ℤ → ℤ → ℕ → Type 0
 Balanced charges stations credits short over stranded all =
@@ -36,9 +36,9 @@ pub record Close (m : Meaning) (l : Line) (z : Sizes) (units : List UnitRow) (co
   pub shares : (c : Cell) (k : ℕ) → k < z.customers →
       Near (share_of m l z units costs k c) (pool m l z units costs c) (units_of l.counted units c k) (sum (counted m l z units costs c))
   pub stations : (d : Cell) (k : ℕ) → k < z.customers →
-      Near (stationOf m l z units costs k d) (pool m l z units costs d) (stationUnits m l z units costs k d) (sum (counted m l z units costs d))
+      Near (station_of m l z units costs k d) (pool m l z units costs d) (station_units m l z units costs k d) (sum (counted m l z units costs d))
   pub credits : (d : Cell) (k : ℕ) → k < z.customers →
-      Near (creditOf m l z units costs k d) (recovered m l z units costs d) (units_of l.counted units d k) (sum (counted m l z units costs d))
+      Near (credit_of m l z units costs k d) (recovered m l z units costs d) (units_of l.counted units d k) (sum (counted m l z units costs d))
 
 pub record LawfulRows (z : Sizes) (units : List UnitRow) (costs : List CostRow) : Type 0 where
   pub units_lawful : first_of (unit_faults z units) ≡ None

@@ -12,7 +12,7 @@ use Rattle.lines.specs.declared.cell.Cell.{Cell}
 use Rattle.lines.specs.declared.line.Line.{Line}
 use Rattle.lines.proofs.Firsts.{first_append, first_found}
 use Rattle.sharing.specs.Rule.{Meaning}
-use Rattle.bill_rules.specs.Bill.{stationOf, creditOf}
+use Rattle.bill_rules.specs.Bill.{station_of, credit_of}
 use Rattle.bill_rules.proofs.Sums.{sum_by_joined}
 use Rattle.billing.specs.Work.{Adds, Rises, Credited}
 use Rattle.billing.proofs.Walks.{count_none, count_more}
@@ -57,8 +57,8 @@ module _ (m : Meaning) (l : Line) (z : Sizes) (us : List UnitRow) (cs : List Cos
 
   pub credited_none : (a most : ℕ) (s c : List ℕ) → Credited m l z us cs (flat_map G (range_with_len a (a - a))) most s s c c
   credited_none a most s c = record {
-    stations_added = λ k h. omega (arith, sum_none (stationOf m l z us cs k) a);
-    credits_added = λ k h. omega (arith, sum_none (creditOf m l z us cs k) a);
+    stations_added = λ k h. omega (arith, sum_none (station_of m l z us cs k) a);
+    credits_added = λ k h. omega (arith, sum_none (credit_of m l z us cs k) a);
     stations_rise = λ k h. omega arith;
     credits_rise = λ k h. omega arith;
   }
@@ -66,16 +66,16 @@ module _ (m : Meaning) (l : Line) (z : Sizes) (us : List UnitRow) (cs : List Cos
   pub credited_more : (a x u : ℕ) (s s₁ s₂ c c₁ c₂ : List ℕ) → a ≤ x → length s₁ ≡ length s → length c₁ ≡ length c →
       Credited m l z us cs (flat_map G (range_with_len a (x - a))) (u * x) s s₁ c c₁ → Credited m l z us cs (G x) u s₁ s₂ c₁ c₂ → Credited m l z us cs (flat_map G (range_with_len a (x + 1 - a))) (u * (x + 1)) s s₂ c c₂
   credited_more a x u s s₁ s₂ c c₁ c₂ le ls lc front here = record {
-    stations_added = λ k h. omega (arith, front.stations_added k h, here.stations_added k (omega arith), sum_more (stationOf m l z us cs k) a x le);
-    credits_added = λ k h. omega (arith, front.credits_added k h, here.credits_added k (omega arith), sum_more (creditOf m l z us cs k) a x le);
+    stations_added = λ k h. omega (arith, front.stations_added k h, here.stations_added k (omega arith), sum_more (station_of m l z us cs k) a x le);
+    credits_added = λ k h. omega (arith, front.credits_added k h, here.credits_added k (omega arith), sum_more (credit_of m l z us cs k) a x le);
     stations_rise = λ k h. omega (arith, front.stations_rise k h, here.stations_rise k (omega arith), mul-add u x 1);
     credits_rise = λ k h. omega (arith, front.credits_rise k h, here.credits_rise k (omega arith), mul-add u x 1);
   }
 
   pub credited_all : (ds ds' : List Cell) (n most : ℕ) (s s' c c' : List ℕ) → ds ≡ ds' → n ≤ most → Credited m l z us cs ds n s s' c c' → Credited m l z us cs ds' most s s' c c'
   credited_all ds ds' n most s s' c c' e le done = record {
-    stations_added = λ k h. done.stations_added k h ∙ ap (λ ds. get_or s k 0 + sum_by (stationOf m l z us cs k) ds) e;
-    credits_added = λ k h. done.credits_added k h ∙ ap (λ ds. get_or c k 0 + sum_by (creditOf m l z us cs k) ds) e;
+    stations_added = λ k h. done.stations_added k h ∙ ap (λ ds. get_or s k 0 + sum_by (station_of m l z us cs k) ds) e;
+    credits_added = λ k h. done.credits_added k h ∙ ap (λ ds. get_or c k 0 + sum_by (credit_of m l z us cs k) ds) e;
     stations_rise = λ k h. omega (arith, done.stations_rise k h);
     credits_rise = λ k h. omega (arith, done.credits_rise k h);
   }

@@ -20,7 +20,7 @@ use Rattle.lines.specs.Cells.{cell, in_area, at_time}
 use Rattle.lines.specs.Totals.{belongs, unit_place, all_quantities, part, cost_line, cost_place, cost_amount, cost_in}
 use Rattle.sharing.specs.Rule.{Meaning, Lawful, share_refusal}
 use Rattle.sharing.proofs.Theorems.{laws_of_sharing}
-use Rattle.bill_rules.specs.Bill.{unit_part, units_of, units_in, pool, counted, shares, share_of, strandedOf}
+use Rattle.bill_rules.specs.Bill.{unit_part, units_of, units_in, pool, counted, shares, share_of, stranded_of}
 use Rattle.bill_rules.proofs.Sums.{sum_by_mono, sum_by_swap, sum_by_map, sum_by_eq, sum_by_zero}
 use Rattle.billing.specs.Work.{Sound}
 
@@ -110,17 +110,17 @@ module _ (m : Meaning) (law : Lawful m) (l : Line) (z : Sizes) (units : List Uni
   pub share_within : (c : Cell) (k : ℕ) → k < z.customers → share_of m l z units costs k c ≤ pool m l z units costs c
   share_within c k lt = share_le m law (pool m l z units costs c) (counted m l z units costs c) k (omega (arith, many_counted c))
 
-  pub stranded_none : (c : Cell) → pool m l z units costs c ≡ 0 → strandedOf m l z units costs c ≡ 0
+  pub stranded_none : (c : Cell) → pool m l z units costs c ≡ 0 → stranded_of m l z units costs c ≡ 0
   stranded_none c none = go (eqb (sum (counted m l z units costs c)) 0)
     where
       go : (b : Bool) → cond b (pool m l z units costs c) 0 ≡ 0
       go true = none
       go false = refl
 
-  pub stranded_all : (c : Cell) → sum (counted m l z units costs c) ≡ 0 → strandedOf m l z units costs c ≡ pool m l z units costs c
+  pub stranded_all : (c : Cell) → sum (counted m l z units costs c) ≡ 0 → stranded_of m l z units costs c ≡ pool m l z units costs c
   stranded_all c none = cond-true (eqb (sum (counted m l z units costs c)) 0) (pool m l z units costs c) 0 (eq-eqb _ 0 none)
 
-  pub stranded_shared : (c : Cell) → (sum (counted m l z units costs c) ≡ 0 → ⊥) → strandedOf m l z units costs c ≡ 0
+  pub stranded_shared : (c : Cell) → (sum (counted m l z units costs c) ≡ 0 → ⊥) → stranded_of m l z units costs c ≡ 0
   stranded_shared c some = cond-false (eqb (sum (counted m l z units costs c)) 0) (pool m l z units costs c) 0 (ne_eqb _ 0 some)
 
   -- a day without costs charges nothing, and strands nothing
@@ -130,8 +130,8 @@ module _ (m : Meaning) (law : Lawful m) (l : Line) (z : Sizes) (units : List Uni
       ∙ sum_by_eq (λ h. share_of m l z units costs k (cell a d h)) (λ _. 0) hs (λ h. no_pool (cell a d h) k lt (omega (arith, hour_within l.number costs a d h)))
       ∙ sum_by_zero hs
 
-  pub idle_stranded : (a d : ℕ) (hs : List ℕ) → pool m l z units costs (cell a d 0) ≡ 0 → sum_by (strandedOf m l z units costs) (map (cell a d) hs) ≡ 0
+  pub idle_stranded : (a d : ℕ) (hs : List ℕ) → pool m l z units costs (cell a d 0) ≡ 0 → sum_by (stranded_of m l z units costs) (map (cell a d) hs) ≡ 0
   idle_stranded a d hs none =
-      sum_by_map (strandedOf m l z units costs) (cell a d) hs
-      ∙ sum_by_eq (λ h. strandedOf m l z units costs (cell a d h)) (λ _. 0) hs (λ h. stranded_none (cell a d h) (omega (arith, hour_within l.number costs a d h)))
+      sum_by_map (stranded_of m l z units costs) (cell a d) hs
+      ∙ sum_by_eq (λ h. stranded_of m l z units costs (cell a d h)) (λ _. 0) hs (λ h. stranded_none (cell a d h) (omega (arith, hour_within l.number costs a d h)))
       ∙ sum_by_zero hs

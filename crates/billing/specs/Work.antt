@@ -23,7 +23,7 @@ use Rattle.lines.specs.Lines.{zonal, dated, line_of}
 use Rattle.lines.specs.Cells.{cell}
 use Rattle.lines.specs.Totals.{all_quantities, cost_in}
 use Rattle.sharing.specs.Rule.{Meaning}
-use Rattle.bill_rules.specs.Bill.{share_of, strandedOf, stationOf, creditOf, Figures, figures, tooLarge, Lengths, misfit}
+use Rattle.bill_rules.specs.Bill.{share_of, stranded_of, station_of, credit_of, Figures, figures, too_large, Lengths, misfit}
 use Rattle.bill_rules.specs.Laws.{LawfulRows}
 
 abbrev pub Adds : List ℕ → List ℕ → (ℕ → ℕ) → Type 0
@@ -46,12 +46,12 @@ abbrev pub charged_in : Meaning → Line → Sizes → List UnitRow → List Cos
 charged_in m l z units costs cs k = sum_by (share_of m l z units costs k) cs
 
 abbrev pub stranded_in : Meaning → Line → Sizes → List UnitRow → List CostRow → List Cell → ℕ
-stranded_in m l z units costs cs = sum_by (strandedOf m l z units costs) cs
+stranded_in m l z units costs cs = sum_by (stranded_of m l z units costs) cs
 
 -- figures of at most `most` have been added for each of the areas and days
 pub record Credited (m : Meaning) (l : Line) (z : Sizes) (units : List UnitRow) (costs : List CostRow) (ds : List Cell) (most : ℕ) (stations stations' credits credits' : List ℕ) : Type 0 where
-  pub stations_added : Adds stations stations' (λ k. sum_by (stationOf m l z units costs k) ds)
-  pub credits_added : Adds credits credits' (λ k. sum_by (creditOf m l z units costs k) ds)
+  pub stations_added : Adds stations stations' (λ k. sum_by (station_of m l z units costs k) ds)
+  pub credits_added : Adds credits credits' (λ k. sum_by (credit_of m l z units costs k) ds)
   pub stations_rise : Rises stations stations' most
   pub credits_rise : Rises credits credits' most
 
@@ -65,7 +65,7 @@ pub record Sound (l : Line) (z : Sizes) (units : List UnitRow) (costs : List Cos
   pub costs_fit : (a d h : ℕ) → Proper l a d → cost_in l.number costs (cell a d h) ≤ most_amount
 
 abbrev pub line_figures : Meaning → Line → Sizes → List UnitRow → List CostRow → Result Figures Refusal
-line_figures m l z units costs = answer (first_of (tooLarge m l z units costs)) (figures m l z units costs)
+line_figures m l z units costs = answer (first_of (too_large m l z units costs)) (figures m l z units costs)
 
 pub record Billable (n : ℕ) (l : Line) (z : Sizes) (units : List UnitRow) (costs : List CostRow) (p : Lengths) : Type 0 where
   pub is : line_of n ≡ Some l

@@ -5,7 +5,7 @@ ghost use Rattle.sharing.specs.Rule.{share_refusal};
 ghost use Rattle.lines.specs.Lines.{zonal};
 ghost use Rattle.lines.specs.Cells.{hour_cells, day_cells, cells};
 ghost use Rattle.lines.specs.Totals.{cost_in};
-ghost use Rattle.bill_rules.specs.Bill.{share_of, strandedOf};
+ghost use Rattle.bill_rules.specs.Bill.{share_of, stranded_of};
 ghost use Rattle.billing.specs.Work.{Adds, Rises, Upto, OnAxis, Proper, Sound, charged_in, stranded_in};
 
 use crate::basis::{Axis, Basis};
@@ -17,8 +17,8 @@ use tariff::limits::HOURS_OF_DAY;
 // Shares a pool by a rule that does not refuse it.
 pub(crate) fn share_out<R: SharingRule>(rule: &mut R, pool: u32, units: &[u32], column: &mut [u32])
     requires { share_refusal pool units.now (length column.old) ≡ None }
-    ensures writes { column.new ≡ meaning rule.old pool units.now }
-    ensures means { meaning rule.new ≡ meaning rule.old }
+    ensures writes { column.new ≡ R.meaning rule.old pool units.now }
+    ensures means { R.meaning rule.new ≡ R.meaning rule.old }
 {
     let Ok(()) = rule.share(pool, units, column) else {
         unreachable()
@@ -40,11 +40,11 @@ fn share_cell<R: SharingRule>(
     requires cents { (pool ≡ cost_in basis.line.number basis.costs.now cell) × (pool ≤ most_amount) }
     requires places { (length charges.old ≡ basis.sizes.customers) × (length units.old ≡ basis.sizes.customers) × (length shares.old ≡ basis.sizes.customers) }
     requires room { Upto charges.old (2 ^ 63) }
-    ensures stranded { result ≡ strandedOf (meaning rule.old) basis.entry.line basis.entry.sizes basis.entry.units.now basis.entry.costs.now cell }
+    ensures stranded { result ≡ stranded_of (R.meaning rule.old) basis.entry.line basis.entry.sizes basis.entry.units.now basis.entry.costs.now cell }
     ensures small { result ≤ 2 ^ 31 }
-    ensures charged { Adds charges.old charges.new (λ k. share_of (meaning rule.old) basis.entry.line basis.entry.sizes basis.entry.units.now basis.entry.costs.now k cell) }
+    ensures charged { Adds charges.old charges.new (λ k. share_of (R.meaning rule.old) basis.entry.line basis.entry.sizes basis.entry.units.now basis.entry.costs.now k cell) }
     ensures rises { Rises charges.old charges.new (2 ^ 31) }
-    ensures means { meaning rule.new ≡ meaning rule.old }
+    ensures means { R.meaning rule.new ≡ R.meaning rule.old }
 {
     fill_units(basis.units, basis.line.counted, cell, units);
     if column_total(units) == 0 {
@@ -62,11 +62,11 @@ fn charge_cell<R: SharingRule>(rule: &mut R, basis: Basis, cell: Cell, charges: 
     requires proper { Proper basis.line cell.area cell.day }
     requires places { length charges.old ≡ basis.sizes.customers }
     requires room { Upto charges.old (2 ^ 63) }
-    ensures stranded { result ≡ strandedOf (meaning rule.old) basis.entry.line basis.entry.sizes basis.entry.units.now basis.entry.costs.now cell }
+    ensures stranded { result ≡ stranded_of (R.meaning rule.old) basis.entry.line basis.entry.sizes basis.entry.units.now basis.entry.costs.now cell }
     ensures small { result ≤ 2 ^ 31 }
-    ensures charged { Adds charges.old charges.new (λ k. share_of (meaning rule.old) basis.entry.line basis.entry.sizes basis.entry.units.now basis.entry.costs.now k cell) }
+    ensures charged { Adds charges.old charges.new (λ k. share_of (R.meaning rule.old) basis.entry.line basis.entry.sizes basis.entry.units.now basis.entry.costs.now k cell) }
     ensures rises { Rises charges.old charges.new (2 ^ 31) }
-    ensures means { meaning rule.new ≡ meaning rule.old }
+    ensures means { R.meaning rule.new ≡ R.meaning rule.old }
 {
     let pool = basis.pool(cell);
     if pool == 0 {
@@ -98,11 +98,11 @@ fn charge_hours<R: SharingRule>(
     requires proper { Proper basis.line area day }
     requires places { length charges.old ≡ basis.sizes.customers }
     requires room { Upto charges.old (2 ^ 62) }
-    ensures stranded { result ≡ stranded_in (meaning rule.old) basis.entry.line basis.entry.sizes basis.entry.units.now basis.entry.costs.now (hour_cells basis.entry.line area day) }
+    ensures stranded { result ≡ stranded_in (R.meaning rule.old) basis.entry.line basis.entry.sizes basis.entry.units.now basis.entry.costs.now (hour_cells basis.entry.line area day) }
     ensures small { result ≤ 2 ^ 36 }
-    ensures charged { Adds charges.old charges.new (charged_in (meaning rule.old) basis.entry.line basis.entry.sizes basis.entry.units.now basis.entry.costs.now (hour_cells basis.entry.line area day)) }
+    ensures charged { Adds charges.old charges.new (charged_in (R.meaning rule.old) basis.entry.line basis.entry.sizes basis.entry.units.now basis.entry.costs.now (hour_cells basis.entry.line area day)) }
     ensures rises { Rises charges.old charges.new (2 ^ 36) }
-    ensures means { meaning rule.new ≡ meaning rule.old }
+    ensures means { R.meaning rule.new ≡ R.meaning rule.old }
 {
     let hours = Axis::of(basis.line.span.timed(), HOURS_OF_DAY);
     let mut stranded = 0;
@@ -124,11 +124,11 @@ fn charge_day<R: SharingRule>(
     requires proper { Proper basis.line area day }
     requires places { length charges.old ≡ basis.sizes.customers }
     requires room { Upto charges.old (2 ^ 62) }
-    ensures stranded { result ≡ stranded_in (meaning rule.old) basis.entry.line basis.entry.sizes basis.entry.units.now basis.entry.costs.now (hour_cells basis.entry.line area day) }
+    ensures stranded { result ≡ stranded_in (R.meaning rule.old) basis.entry.line basis.entry.sizes basis.entry.units.now basis.entry.costs.now (hour_cells basis.entry.line area day) }
     ensures small { result ≤ 2 ^ 36 }
-    ensures charged { Adds charges.old charges.new (charged_in (meaning rule.old) basis.entry.line basis.entry.sizes basis.entry.units.now basis.entry.costs.now (hour_cells basis.entry.line area day)) }
+    ensures charged { Adds charges.old charges.new (charged_in (R.meaning rule.old) basis.entry.line basis.entry.sizes basis.entry.units.now basis.entry.costs.now (hour_cells basis.entry.line area day)) }
     ensures rises { Rises charges.old charges.new (2 ^ 36) }
-    ensures means { meaning rule.new ≡ meaning rule.old }
+    ensures means { R.meaning rule.new ≡ R.meaning rule.old }
 {
     if basis.pool(Cell { area, day, hour: 0 }) == 0 {
         return 0;
@@ -142,11 +142,11 @@ fn charge_area<R: SharingRule>(rule: &mut R, basis: Basis, area: u8, charges: &m
     requires proper { OnAxis (zonal basis.line.area) area }
     requires places { length charges.old ≡ basis.sizes.customers }
     requires room { Upto charges.old (2 ^ 61) }
-    ensures stranded { result ≡ stranded_in (meaning rule.old) basis.entry.line basis.entry.sizes basis.entry.units.now basis.entry.costs.now (day_cells basis.entry.line basis.entry.sizes area) }
+    ensures stranded { result ≡ stranded_in (R.meaning rule.old) basis.entry.line basis.entry.sizes basis.entry.units.now basis.entry.costs.now (day_cells basis.entry.line basis.entry.sizes area) }
     ensures small { result ≤ 2 ^ 41 }
-    ensures charged { Adds charges.old charges.new (charged_in (meaning rule.old) basis.entry.line basis.entry.sizes basis.entry.units.now basis.entry.costs.now (day_cells basis.entry.line basis.entry.sizes area)) }
+    ensures charged { Adds charges.old charges.new (charged_in (R.meaning rule.old) basis.entry.line basis.entry.sizes basis.entry.units.now basis.entry.costs.now (day_cells basis.entry.line basis.entry.sizes area)) }
     ensures rises { Rises charges.old charges.new (2 ^ 41) }
-    ensures means { meaning rule.new ≡ meaning rule.old }
+    ensures means { R.meaning rule.new ≡ R.meaning rule.old }
 {
     let days = Axis::of(basis.line.span.dated(), basis.sizes.days);
     let mut stranded = 0;
@@ -162,11 +162,11 @@ pub(crate) fn charge_line<R: SharingRule>(rule: &mut R, basis: Basis, charges: &
     requires sound { Sound basis.line basis.sizes basis.units.now basis.costs.now }
     requires places { length charges.old ≡ basis.sizes.customers }
     requires room { Upto charges.old (2 ^ 60) }
-    ensures stranded { result ≡ stranded_in (meaning rule.old) basis.entry.line basis.entry.sizes basis.entry.units.now basis.entry.costs.now (cells basis.entry.line basis.entry.sizes) }
+    ensures stranded { result ≡ stranded_in (R.meaning rule.old) basis.entry.line basis.entry.sizes basis.entry.units.now basis.entry.costs.now (cells basis.entry.line basis.entry.sizes) }
     ensures small { result ≤ 2 ^ 47 }
-    ensures charged { Adds charges.old charges.new (charged_in (meaning rule.old) basis.entry.line basis.entry.sizes basis.entry.units.now basis.entry.costs.now (cells basis.entry.line basis.entry.sizes)) }
+    ensures charged { Adds charges.old charges.new (charged_in (R.meaning rule.old) basis.entry.line basis.entry.sizes basis.entry.units.now basis.entry.costs.now (cells basis.entry.line basis.entry.sizes)) }
     ensures rises { Rises charges.old charges.new (2 ^ 47) }
-    ensures means { meaning rule.new ≡ meaning rule.old }
+    ensures means { R.meaning rule.new ≡ R.meaning rule.old }
 {
     let areas = Axis::of(basis.line.area.zonal(), basis.sizes.subzones);
     let mut stranded = 0;

@@ -71,11 +71,11 @@ fn fill_columns<R: SharingRule>(
     requires places { (length charges.old ≡ basis.sizes.customers) × (length stations.old ≡ basis.sizes.customers) × (length credits.old ≡ basis.sizes.customers) }
     requires work_places { (length station_work.old ≡ basis.sizes.customers) × (length credit_work.old ≡ basis.sizes.customers) }
     requires zeros { Upto station_work.old 0 × Upto credit_work.old 0 }
-    ensures answers { result ≡ told (line_figures (meaning rule.old) basis.entry.line basis.entry.sizes basis.entry.units.now basis.entry.costs.now) }
-    ensures charges { charges.new ≡ column_after (line_figures (meaning rule.old) basis.entry.line basis.entry.sizes basis.entry.units.now basis.entry.costs.now) (λ f. f.charges) charges.old }
-    ensures stations { stations.new ≡ column_after (line_figures (meaning rule.old) basis.entry.line basis.entry.sizes basis.entry.units.now basis.entry.costs.now) (λ f. f.stations) stations.old }
-    ensures credits { credits.new ≡ column_after (line_figures (meaning rule.old) basis.entry.line basis.entry.sizes basis.entry.units.now basis.entry.costs.now) (λ f. f.credits) credits.old }
-    ensures means { meaning rule.new ≡ meaning rule.old }
+    ensures answers { result ≡ told (line_figures (R.meaning rule.old) basis.entry.line basis.entry.sizes basis.entry.units.now basis.entry.costs.now) }
+    ensures charges { charges.new ≡ column_after (line_figures (R.meaning rule.old) basis.entry.line basis.entry.sizes basis.entry.units.now basis.entry.costs.now) (λ f. f.charges) charges.old }
+    ensures stations { stations.new ≡ column_after (line_figures (R.meaning rule.old) basis.entry.line basis.entry.sizes basis.entry.units.now basis.entry.costs.now) (λ f. f.stations) stations.old }
+    ensures credits { credits.new ≡ column_after (line_figures (R.meaning rule.old) basis.entry.line basis.entry.sizes basis.entry.units.now basis.entry.costs.now) (λ f. f.credits) credits.old }
+    ensures means { R.meaning rule.new ≡ R.meaning rule.old }
 {
     station_part(rule, basis, station_work, credit_work)?;
     stations.copy_from_slice(station_work);
@@ -99,14 +99,14 @@ pub fn line_bill<R: SharingRule>(
     stations: &mut [u64],
     credits: &mut [u64],
 ) -> Result<Remainders, Refusal>
-    ensures answers { result ≡ told (bill (meaning rule.old) line (sizes_of sizes.now) units.now costs.now (record { charges = length charges.entry.now; stations = length stations.old; credits = length credits.old })) }
-    ensures charges { charges.exit.now ≡ column_after (bill (meaning rule.old) line (sizes_of sizes.now) units.now costs.now (record { charges = length charges.entry.now; stations = length stations.old; credits = length credits.old })) (λ f. f.charges) charges.entry.now }
-    ensures stations { stations.new ≡ column_after (bill (meaning rule.old) line (sizes_of sizes.now) units.now costs.now (record { charges = length charges.entry.now; stations = length stations.old; credits = length credits.old })) (λ f. f.stations) stations.old }
-    ensures credits { credits.new ≡ column_after (bill (meaning rule.old) line (sizes_of sizes.now) units.now costs.now (record { charges = length charges.entry.now; stations = length stations.old; credits = length credits.old })) (λ f. f.credits) credits.old }
+    ensures answers { result ≡ told (bill (R.meaning rule.old) line (sizes_of sizes.now) units.now costs.now (record { charges = length charges.entry.now; stations = length stations.old; credits = length credits.old })) }
+    ensures charges { charges.exit.now ≡ column_after (bill (R.meaning rule.old) line (sizes_of sizes.now) units.now costs.now (record { charges = length charges.entry.now; stations = length stations.old; credits = length credits.old })) (λ f. f.charges) charges.entry.now }
+    ensures stations { stations.new ≡ column_after (bill (R.meaning rule.old) line (sizes_of sizes.now) units.now costs.now (record { charges = length charges.entry.now; stations = length stations.old; credits = length credits.old })) (λ f. f.stations) stations.old }
+    ensures credits { credits.new ≡ column_after (bill (R.meaning rule.old) line (sizes_of sizes.now) units.now costs.now (record { charges = length charges.entry.now; stations = length stations.old; credits = length credits.old })) (λ f. f.credits) credits.old }
     ensures balance { IfOk result (λ x. Balanced (sum charges.new) (sum stations.new) (sum credits.new) x.short x.over x.stranded (line_costs line costs.now)) }
-    ensures closeness { (l : Line) → line_of line ≡ Some l → Close (meaning rule.old) l (sizes_of sizes.now) units.now costs.now }
-    ensures means { meaning rule.new ≡ meaning rule.old }
-    ensures lawful { Lawful (meaning rule.old) }
+    ensures closeness { (l : Line) → line_of line ≡ Some l → Close (R.meaning rule.old) l (sizes_of sizes.now) units.now costs.now }
+    ensures means { R.meaning rule.new ≡ R.meaning rule.old }
+    ensures lawful { Lawful (R.meaning rule.old) }
     ensures laws { LawsOfBilling }
 {
     let line = billable(

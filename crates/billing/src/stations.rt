@@ -7,7 +7,7 @@ ghost use Rattle.tariff.specs.Refusals.{first_of, answer};
 ghost use Rattle.lines.specs.Lines.{zonal};
 ghost use Rattle.lines.specs.Cells.{cell, whole_days, days_for, station_days};
 ghost use Rattle.lines.specs.Totals.{cost_in};
-ghost use Rattle.bill_rules.specs.Bill.{station_charge, tooLargeAt};
+ghost use Rattle.bill_rules.specs.Bill.{station_charge, too_large_at};
 ghost use Rattle.billing.specs.Work.{Adds, Upto, OnAxis, Proper, Credited, Sound};
 
 use crate::basis::{Axis, Basis};
@@ -65,9 +65,9 @@ fn credit_day<R: SharingRule>(
     requires places { (length stations.old ≡ basis.sizes.customers) × (length credits.old ≡ basis.sizes.customers) }
     requires work_places { (length counted.old ≡ basis.sizes.customers) × (length work.old ≡ basis.sizes.customers) }
     requires room { Upto stations.old (2 ^ 62) × Upto credits.old (2 ^ 62) }
-    ensures answers { result ≡ answer (first_of (map (tooLargeAt (meaning rule.old) basis.entry.line basis.entry.sizes basis.entry.units.now basis.entry.costs.now) (cell ∷ []))) tt }
-    ensures credited { OnOk result (Credited (meaning rule.old) basis.entry.line basis.entry.sizes basis.entry.units.now basis.entry.costs.now (cell ∷ []) (2 ^ 31) stations.old stations.new credits.old credits.new) }
-    ensures means { meaning rule.new ≡ meaning rule.old }
+    ensures answers { result ≡ answer (first_of (map (too_large_at (R.meaning rule.old) basis.entry.line basis.entry.sizes basis.entry.units.now basis.entry.costs.now) (cell ∷ []))) tt }
+    ensures credited { OnOk result (Credited (R.meaning rule.old) basis.entry.line basis.entry.sizes basis.entry.units.now basis.entry.costs.now (cell ∷ []) (2 ^ 31) stations.old stations.new credits.old credits.new) }
+    ensures means { R.meaning rule.new ≡ R.meaning rule.old }
 {
     fill_both(
         basis.units,
@@ -104,9 +104,9 @@ fn station_day<R: SharingRule>(
     requires proper { Proper basis.line area day }
     requires places { (length stations.old ≡ basis.sizes.customers) × (length credits.old ≡ basis.sizes.customers) }
     requires room { Upto stations.old (2 ^ 62) × Upto credits.old (2 ^ 62) }
-    ensures answers { result ≡ answer (first_of (map (tooLargeAt (meaning rule.old) basis.entry.line basis.entry.sizes basis.entry.units.now basis.entry.costs.now) (cell area day 0 ∷ []))) tt }
-    ensures credited { OnOk result (Credited (meaning rule.old) basis.entry.line basis.entry.sizes basis.entry.units.now basis.entry.costs.now (cell area day 0 ∷ []) (2 ^ 31) stations.old stations.new credits.old credits.new) }
-    ensures means { meaning rule.new ≡ meaning rule.old }
+    ensures answers { result ≡ answer (first_of (map (too_large_at (R.meaning rule.old) basis.entry.line basis.entry.sizes basis.entry.units.now basis.entry.costs.now) (cell area day 0 ∷ []))) tt }
+    ensures credited { OnOk result (Credited (R.meaning rule.old) basis.entry.line basis.entry.sizes basis.entry.units.now basis.entry.costs.now (cell area day 0 ∷ []) (2 ^ 31) stations.old stations.new credits.old credits.new) }
+    ensures means { R.meaning rule.new ≡ R.meaning rule.old }
 {
     let whole = Cell { area, day, hour: 0 };
     let pool = basis.pool(whole);
@@ -143,9 +143,9 @@ fn station_days<R: SharingRule>(
     requires proper { OnAxis (zonal basis.line.area) area }
     requires places { (length stations.old ≡ basis.sizes.customers) × (length credits.old ≡ basis.sizes.customers) }
     requires room { Upto stations.old (2 ^ 61) × Upto credits.old (2 ^ 61) }
-    ensures answers { result ≡ answer (first_of (map (tooLargeAt (meaning rule.old) basis.entry.line basis.entry.sizes basis.entry.units.now basis.entry.costs.now) (whole_days basis.entry.sizes area))) tt }
-    ensures credited { OnOk result (Credited (meaning rule.old) basis.entry.line basis.entry.sizes basis.entry.units.now basis.entry.costs.now (whole_days basis.entry.sizes area) (2 ^ 36) stations.old stations.new credits.old credits.new) }
-    ensures means { meaning rule.new ≡ meaning rule.old }
+    ensures answers { result ≡ answer (first_of (map (too_large_at (R.meaning rule.old) basis.entry.line basis.entry.sizes basis.entry.units.now basis.entry.costs.now) (whole_days basis.entry.sizes area))) tt }
+    ensures credited { OnOk result (Credited (R.meaning rule.old) basis.entry.line basis.entry.sizes basis.entry.units.now basis.entry.costs.now (whole_days basis.entry.sizes area) (2 ^ 36) stations.old stations.new credits.old credits.new) }
+    ensures means { R.meaning rule.new ≡ R.meaning rule.old }
 {
     for day in 1..basis.sizes.days + 1 {
         station_day(rule, basis, station, area, day, stations, credits)?;
@@ -165,9 +165,9 @@ fn station_areas<R: SharingRule>(
     requires has { basis.line.station ≡ Some station }
     requires places { (length stations.old ≡ basis.sizes.customers) × (length credits.old ≡ basis.sizes.customers) }
     requires room { Upto stations.old (2 ^ 60) × Upto credits.old (2 ^ 60) }
-    ensures answers { result ≡ answer (first_of (map (tooLargeAt (meaning rule.old) basis.entry.line basis.entry.sizes basis.entry.units.now basis.entry.costs.now) (days_for (Some station) basis.entry.line basis.entry.sizes))) tt }
-    ensures credited { OnOk result (Credited (meaning rule.old) basis.entry.line basis.entry.sizes basis.entry.units.now basis.entry.costs.now (days_for (Some station) basis.entry.line basis.entry.sizes) (2 ^ 42) stations.old stations.new credits.old credits.new) }
-    ensures means { meaning rule.new ≡ meaning rule.old }
+    ensures answers { result ≡ answer (first_of (map (too_large_at (R.meaning rule.old) basis.entry.line basis.entry.sizes basis.entry.units.now basis.entry.costs.now) (days_for (Some station) basis.entry.line basis.entry.sizes))) tt }
+    ensures credited { OnOk result (Credited (R.meaning rule.old) basis.entry.line basis.entry.sizes basis.entry.units.now basis.entry.costs.now (days_for (Some station) basis.entry.line basis.entry.sizes) (2 ^ 42) stations.old stations.new credits.old credits.new) }
+    ensures means { R.meaning rule.new ≡ R.meaning rule.old }
 {
     let areas = Axis::of(basis.line.area.zonal(), basis.sizes.subzones);
     for area in areas.first..areas.end {
@@ -187,9 +187,9 @@ pub(crate) fn station_part<R: SharingRule>(
     requires sound { Sound basis.line basis.sizes basis.units.now basis.costs.now }
     requires places { (length stations.old ≡ basis.sizes.customers) × (length credits.old ≡ basis.sizes.customers) }
     requires room { Upto stations.old (2 ^ 60) × Upto credits.old (2 ^ 60) }
-    ensures answers { result ≡ answer (first_of (map (tooLargeAt (meaning rule.old) basis.entry.line basis.entry.sizes basis.entry.units.now basis.entry.costs.now) (station_days basis.entry.line basis.entry.sizes))) tt }
-    ensures credited { OnOk result (Credited (meaning rule.old) basis.entry.line basis.entry.sizes basis.entry.units.now basis.entry.costs.now (station_days basis.entry.line basis.entry.sizes) (2 ^ 42) stations.old stations.new credits.old credits.new) }
-    ensures means { meaning rule.new ≡ meaning rule.old }
+    ensures answers { result ≡ answer (first_of (map (too_large_at (R.meaning rule.old) basis.entry.line basis.entry.sizes basis.entry.units.now basis.entry.costs.now) (station_days basis.entry.line basis.entry.sizes))) tt }
+    ensures credited { OnOk result (Credited (R.meaning rule.old) basis.entry.line basis.entry.sizes basis.entry.units.now basis.entry.costs.now (station_days basis.entry.line basis.entry.sizes) (2 ^ 42) stations.old stations.new credits.old credits.new) }
+    ensures means { R.meaning rule.new ≡ R.meaning rule.old }
 {
     match basis.line.station {
         Some(station) => station_areas(rule, basis, station, stations, credits),

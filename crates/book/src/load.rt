@@ -80,7 +80,7 @@ impl Numbers {
         marks: &[u32],
         pass: &Pass,
     ) -> Option<Refusal>
-        ensures { (unitTable : List UnitRow) (costTable : List CostRow) → length unitTable ≡ units → length costTable ≡ costs → result ≡ load_refusal (opened (numbers_of self.now) unitTable costTable marks.now) (pass_of pass.now) }
+        ensures { (unit_table : List UnitRow) (cost_table : List CostRow) → length unit_table ≡ units → length cost_table ≡ costs → result ≡ load_refusal (opened (numbers_of self.now) unit_table cost_table marks.now) (pass_of pass.now) }
     {
         if self.outnumber(units, costs) || marks.len() != CONTRIBUTORS {
             return Some(Refusal::TableUnfit);

@@ -24,7 +24,7 @@ use Rattle.lines.specs.Rows.{unlawful_unit, wrong, unlawful_for, unlawful_cost, 
 use Rattle.lines.specs.Sizes.{outside}
 use Rattle.lines.specs.Totals.{part, cost_place, cost_line, cost_amount, cost_in, all_quantities, alike}
 use Rattle.lines.proofs.Firsts.{first_none}
-use Rattle.bill_rules.specs.Bill.{Figures, Lengths, misfit, bill as lineBill}
+use Rattle.bill_rules.specs.Bill.{Figures, Lengths, misfit, bill as line_bill}
 use Rattle.bill_rules.specs.Laws.{LawfulRows, Agree}
 use Rattle.bill_rules.proofs.Agreement.{laws_of_billing}
 use Rattle.book_rules.specs.Machine.{Pass, post_tests, post_refusal, cost_tests, cost_refusal, correct_tests, correct_refusal, corrected, with_quantity, admit_refusal, remove_refusal, hand_in_refusal, freeze_refusal, short_tables, book_bill}
@@ -114,12 +114,12 @@ cost_more z costs q ok le all r law = go (eqb q.line r.line && holds (cell r.sub
 
 -- what lasts over a run, by the parts that matter, so that a call that leaves them needs no proof
 
-record Kept (z sizes : Sizes) (units : List UnitRow) (costs : List CostRow) (n : ℕ) (unitTable : List UnitRow) (m : ℕ) (costTable : List CostRow) : Type 0 where
+record Kept (z sizes : Sizes) (units : List UnitRow) (costs : List CostRow) (n : ℕ) (unit_table : List UnitRow) (m : ℕ) (cost_table : List CostRow) : Type 0 where
   same : sizes ≡ z
-  units_inside : n ≤ length unitTable
-  units_are : take n unitTable ≡ units
-  costs_inside : m ≤ length costTable
-  costs_are : take m costTable ≡ costs
+  units_inside : n ≤ length unit_table
+  units_are : take n unit_table ≡ units
+  costs_inside : m ≤ length cost_table
+  costs_are : take m cost_table ≡ costs
   sound : Sound z units costs
 
 abbrev Inv : Sizes → List Event → State → Type 0
@@ -252,7 +252,7 @@ start s e f = record {
 
 -- a frozen book's bill is that of its history's rows
 bill_is : (z : Sizes) (before : List Event) (t : State) (rule : Rule) (n : ℕ) (p : Lengths) → Inv z before t → t.is_frozen ≡ true →
-    (step t (bill rule n p)).answer ≡ told_bill (lineBill rule.meaning n z (units_in before) (costs_in before) p)
+    (step t (bill rule n p)).answer ≡ told_bill (line_bill rule.meaning n z (units_in before) (costs_in before) p)
 bill_is z before t rule n p inv on =
     let m = rule.meaning in
     let us = take t.book.units t.units in
@@ -260,10 +260,10 @@ bill_is z before t rule n p inv on =
     let long : short_tables t.book t.units t.costs ≡ false =
     or_from (ltb (length t.units) t.book.units) _ (le-ltb (length t.units) t.book.units inv.units_inside) (le-ltb (length t.costs) t.book.costs inv.costs_inside) in
     ap (λ b. (stepped b t (perform t (bill rule n p))).answer) on
-    ∙ ap (λ b. told_bill (cond b (Err TableUnfit) (lineBill m n t.book.sizes us cs p))) long
-    ∙ ap (λ x. told_bill (lineBill m n x us cs p)) inv.same
-    ∙ ap (λ l. told_bill (lineBill m n z l cs p)) inv.units_are
-    ∙ ap (λ l. told_bill (lineBill m n z (units_in before) l p)) inv.costs_are
+    ∙ ap (λ b. told_bill (cond b (Err TableUnfit) (line_bill m n t.book.sizes us cs p))) long
+    ∙ ap (λ x. told_bill (line_bill m n x us cs p)) inv.same
+    ∙ ap (λ l. told_bill (line_bill m n z l cs p)) inv.units_are
+    ∙ ap (λ l. told_bill (line_bill m n z (units_in before) l p)) inv.costs_are
 
 billed_ok : (r : Result Figures Refusal) (f : Figures) → told_bill r ≡ billed f → r ≡ Ok f
 billed_ok (Ok g) f e = cc
@@ -277,7 +277,7 @@ module _ (s : State) (no_units_share : s.book.units ≡ 0) (no-costs : s.book.co
   rows_lawful calls = lawful_rows s.book.sizes (units_in (past s calls)) (costs_in (past s calls)) (reached calls).sound
 
   pub bill_follows : (calls : List Call) (rule : Rule) (n : ℕ) (p : Lengths) → (final s calls).is_frozen ≡ true →
-      bill_after s calls rule n p ≡ told_bill (lineBill rule.meaning n s.book.sizes (units_in (past s calls)) (costs_in (past s calls)) p)
+      bill_after s calls rule n p ≡ told_bill (line_bill rule.meaning n s.book.sizes (units_in (past s calls)) (costs_in (past s calls)) p)
   bill_follows calls rule n p on = bill_is s.book.sizes (past s calls) (final s calls) rule n p (reached calls) on
 
   pub follows : Follows s

@@ -5,7 +5,7 @@ use Rattle.tariff.specs.declared.rows.Sizes.{Sizes}
 use Rattle.tariff.specs.declared.rows.UnitRow.{UnitRow}
 use Rattle.tariff.specs.declared.rows.CostRow.{CostRow}
 use Rattle.sharing.specs.Rule.{Rule}
-use Rattle.bill_rules.specs.Bill.{Lengths, misfit, bill as lineBill}
+use Rattle.bill_rules.specs.Bill.{Lengths, misfit, bill as line_bill}
 use Rattle.bill_rules.specs.Laws.{LawfulRows, Agree}
 use Rattle.bill_rules.proofs.Agreement.{laws_of_billing}
 use Rattle.book_rules.specs.Run.{State, Call, told_bill, final, units_in, costs_in, at_opening}
@@ -52,8 +52,8 @@ module _ (s t : State) (no_units_share : s.book.units ≡ 0) (no-costs : s.book.
       let lengths : p ≡ p' = same_lengths z p p' (fitting z p fits) (fitting z p' fits-z) in
       bill_follows s no_units_share no-costs before rule n p on
       ∙ ap told_bill (laws_of_billing.agreement rule.meaning rule.lawful n z us us' cs cs' p (rows_lawful s no_units_share no-costs before) lawful' agree)
-      ∙ ap (λ (q : Lengths). told_bill (lineBill rule.meaning n z us' cs' q)) lengths
-      ∙ ap (λ (x : Sizes). told_bill (lineBill rule.meaning n x us' cs' p')) sizes
+      ∙ ap (λ (q : Lengths). told_bill (line_bill rule.meaning n z us' cs' q)) lengths
+      ∙ ap (λ (x : Sizes). told_bill (line_bill rule.meaning n x us' cs' p')) sizes
       ∙ sym (bill_follows t no-units' no-costs' before' rule n p' on')
 
 -- a book without rows, whatever the tables hold, lives by the laws

@@ -14,7 +14,7 @@ use Rattle.sharing.specs.Rule.{Rule}
 use Rattle.lines.specs.declared.line.Line.{Line}
 use Rattle.lines.specs.Lines.{line_of}
 use Rattle.lines.specs.Totals.{line_costs}
-use Rattle.bill_rules.specs.Bill.{Figures, Lengths, misfit, bill as lineBill}
+use Rattle.bill_rules.specs.Bill.{Figures, Lengths, misfit, bill as line_bill}
 use Rattle.bill_rules.specs.Laws.{Balances, Close, LawfulRows, Agree}
 use Rattle.book_rules.specs.Machine.{open_refusal}
 use Rattle.book_rules.specs.Run.{State, Call, bill, Answer, billed, told_bill, step, Offered, final, answers, Event, history, units_in, costs_in, at_opening}
@@ -33,7 +33,7 @@ bill_after s before rule n p = (step (final s before) (bill rule n p)).answer
 pub record Follows (s : State) : Type 0 where
   pub lawful : (before : List Call) → Offered s before → LawfulRows s.book.sizes (units_in (past s before)) (costs_in (past s before))
   pub answer : (before : List Call) (rule : Rule) (n : ℕ) (p : Lengths) → Offered s before → (final s before).is_frozen ≡ true →
-      bill_after s before rule n p ≡ told_bill (lineBill rule.meaning n s.book.sizes (units_in (past s before)) (costs_in (past s before)) p)
+      bill_after s before rule n p ≡ told_bill (line_bill rule.meaning n s.book.sizes (units_in (past s before)) (costs_in (past s before)) p)
   pub balance : (before : List Call) (rule : Rule) (n : ℕ) (p : Lengths) (f : Figures) → Offered s before → (final s before).is_frozen ≡ true →
       bill_after s before rule n p ≡ billed f → Balances f (line_costs n (costs_in (past s before)))
   pub close : (before : List Call) (rule : Rule) (l : Line) → Offered s before → Close rule.meaning l s.book.sizes (units_in (past s before)) (costs_in (past s before))

@@ -48,10 +48,10 @@ fn bill<R: SharingRule>(
     line: u8,
     out: &mut [u8],
 ) -> Reply
-    ensures answers { (name : Name) → result ≡ reply_for (length out.old) (Bill line name) (answered (bill_answer (meaning rule.old) line (frozen_book book.now) units.now costs.now)) }
-    ensures out { out.new ≡ out_after out.old (rows_of line (bill_answer (meaning rule.old) line (frozen_book book.now) units.now costs.now)) }
-    ensures lawful { Lawful (meaning rule.old) }
-    ensures means { meaning rule.new ≡ meaning rule.old }
+    ensures answers { (name : Name) → result ≡ reply_for (length out.old) (Bill line name) (answered (bill_answer (R.meaning rule.old) line (frozen_book book.now) units.now costs.now)) }
+    ensures out { out.new ≡ out_after out.old (rows_of line (bill_answer (R.meaning rule.old) line (frozen_book book.now) units.now costs.now)) }
+    ensures lawful { Lawful (R.meaning rule.old) }
+    ensures means { R.meaning rule.new ≡ R.meaning rule.old }
 {
     match put_bill(out, 0, rule, line, book, units, costs) {
         Ok(end) => Reply::Billed(end),
@@ -70,10 +70,10 @@ fn bill_by<D: SharingRule, R: SharingRule>(
     rule: RuleName,
     out: &mut [u8],
 ) -> Reply
-    ensures answers { (ld : Lawful (D.SharingRule.meaning down.old)) (lr : Lawful (R.SharingRule.meaning running.old)) → result ≡ reply_for (length out.old) (Bill line rule) (answered (bill_answer (rules_for (D.SharingRule.meaning down.old) (R.SharingRule.meaning running.old) ld lr rule).meaning line (frozen_book book.now) units.now costs.now)) }
-    ensures out { (ld : Lawful (D.SharingRule.meaning down.old)) (lr : Lawful (R.SharingRule.meaning running.old)) → out.new ≡ out_after out.old (rows_of line (bill_answer (rules_for (D.SharingRule.meaning down.old) (R.SharingRule.meaning running.old) ld lr rule).meaning line (frozen_book book.now) units.now costs.now)) }
-    ensures lawful { Lawful (D.SharingRule.meaning down.old) × Lawful (R.SharingRule.meaning running.old) }
-    ensures means { (D.SharingRule.meaning down.new ≡ D.SharingRule.meaning down.old) × (R.SharingRule.meaning running.new ≡ R.SharingRule.meaning running.old) }
+    ensures answers { (ld : Lawful (D.meaning down.old)) (lr : Lawful (R.meaning running.old)) → result ≡ reply_for (length out.old) (Bill line rule) (answered (bill_answer (rules_for (D.meaning down.old) (R.meaning running.old) ld lr rule).meaning line (frozen_book book.now) units.now costs.now)) }
+    ensures out { (ld : Lawful (D.meaning down.old)) (lr : Lawful (R.meaning running.old)) → out.new ≡ out_after out.old (rows_of line (bill_answer (rules_for (D.meaning down.old) (R.meaning running.old) ld lr rule).meaning line (frozen_book book.now) units.now costs.now)) }
+    ensures lawful { Lawful (D.meaning down.old) × Lawful (R.meaning running.old) }
+    ensures means { (D.meaning down.new ≡ D.meaning down.old) × (R.meaning running.new ≡ R.meaning running.old) }
 {
     match rule {
         RuleName::Down => bill(book, units, costs, down, line, out),
@@ -93,10 +93,10 @@ pub(crate) fn call_frozen<D: SharingRule, R: SharingRule>(
     command: Command,
     out: &mut [u8],
 ) -> (Stage, Reply)
-    ensures answers { (ld : Lawful (D.SharingRule.meaning down.old)) (lr : Lawful (R.SharingRule.meaning running.old)) → Answers (rules_for (D.SharingRule.meaning down.old) (R.SharingRule.meaning running.old) ld lr) (length out.old) command (frozen_journal book units.now costs.now marks.now passes.old.items) (shown_as result.0 units.now costs.now marks.now passes.new.items) result.1 }
-    ensures out { (ld : Lawful (D.SharingRule.meaning down.old)) (lr : Lawful (R.SharingRule.meaning running.old)) → out.new ≡ out_after out.old (bill_text command (step_journal (rules_for (D.SharingRule.meaning down.old) (R.SharingRule.meaning running.old) ld lr) (frozen_journal book units.now costs.now marks.now passes.old.items) command).reply) }
-    ensures lawful { Lawful (D.SharingRule.meaning down.old) × Lawful (R.SharingRule.meaning running.old) }
-    ensures means { (D.SharingRule.meaning down.new ≡ D.SharingRule.meaning down.old) × (R.SharingRule.meaning running.new ≡ R.SharingRule.meaning running.old) }
+    ensures answers { (ld : Lawful (D.meaning down.old)) (lr : Lawful (R.meaning running.old)) → Answers (rules_for (D.meaning down.old) (R.meaning running.old) ld lr) (length out.old) command (frozen_journal book units.now costs.now marks.now passes.old.items) (shown_as result.0 units.now costs.now marks.now passes.new.items) result.1 }
+    ensures out { (ld : Lawful (D.meaning down.old)) (lr : Lawful (R.meaning running.old)) → out.new ≡ out_after out.old (bill_text command (step_journal (rules_for (D.meaning down.old) (R.meaning running.old) ld lr) (frozen_journal book units.now costs.now marks.now passes.old.items) command).reply) }
+    ensures lawful { Lawful (D.meaning down.old) × Lawful (R.meaning running.old) }
+    ensures means { (D.meaning down.new ≡ D.meaning down.old) × (R.meaning running.new ≡ R.meaning running.old) }
 {
     let reply = match command {
         Command::Reopen => return reopen(book),

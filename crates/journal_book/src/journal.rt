@@ -59,11 +59,11 @@ impl Journal {
         command: Command,
         out: &mut [u8],
     ) -> (Journal, Result<Reply, AllocError>)
-        ensures answers { (ld : Lawful (D.SharingRule.meaning down.old)) (lr : Lawful (R.SharingRule.meaning running.old)) → Leaves (rules_for (D.SharingRule.meaning down.old) (R.SharingRule.meaning running.old) ld lr) (length out.old) command (shown_journal self) (shown_journal result.0) result.1 }
-        ensures out { (ld : Lawful (D.SharingRule.meaning down.old)) (lr : Lawful (R.SharingRule.meaning running.old)) → Written (rules_for (D.SharingRule.meaning down.old) (R.SharingRule.meaning running.old) ld lr) command (shown_journal self) out.old out.new result.1 }
+        ensures answers { (ld : Lawful (D.meaning down.old)) (lr : Lawful (R.meaning running.old)) → Leaves (rules_for (D.meaning down.old) (R.meaning running.old) ld lr) (length out.old) command (shown_journal self) (shown_journal result.0) result.1 }
+        ensures out { (ld : Lawful (D.meaning down.old)) (lr : Lawful (R.meaning running.old)) → Written (rules_for (D.meaning down.old) (R.meaning running.old) ld lr) command (shown_journal self) out.old out.new result.1 }
         ensures numbered { Numbered (shown_journal self) → Numbered (shown_journal result.0) }
-        ensures lawful { Lawful (D.SharingRule.meaning down.old) × Lawful (R.SharingRule.meaning running.old) }
-        ensures means { (D.SharingRule.meaning down.new ≡ D.SharingRule.meaning down.old) × (R.SharingRule.meaning running.new ≡ R.SharingRule.meaning running.old) }
+        ensures lawful { Lawful (D.meaning down.old) × Lawful (R.meaning running.old) }
+        ensures means { (D.meaning down.new ≡ D.meaning down.old) × (R.meaning running.new ≡ R.meaning running.old) }
     {
         let Journal {
             stage,

@@ -26,9 +26,9 @@ impl Journal {
         out: &mut [u8],
         text: &mut Vec<u8>,
     ) -> (Journal, Result<(), AllocError>)
-        ensures answers { (ld : Lawful (D.SharingRule.meaning down.old)) (lr : Lawful (R.SharingRule.meaning running.old)) → Tells (rules_for (D.SharingRule.meaning down.old) (R.SharingRule.meaning running.old) ld lr) (length out.old) command (shown_journal self) (shown_journal result.0) text.old.items text.new.items result.1 }
-        ensures lawful { Lawful (D.SharingRule.meaning down.old) × Lawful (R.SharingRule.meaning running.old) }
-        ensures means { (D.SharingRule.meaning down.new ≡ D.SharingRule.meaning down.old) × (R.SharingRule.meaning running.new ≡ R.SharingRule.meaning running.old) }
+        ensures answers { (ld : Lawful (D.meaning down.old)) (lr : Lawful (R.meaning running.old)) → Tells (rules_for (D.meaning down.old) (R.meaning running.old) ld lr) (length out.old) command (shown_journal self) (shown_journal result.0) text.old.items text.new.items result.1 }
+        ensures lawful { Lawful (D.meaning down.old) × Lawful (R.meaning running.old) }
+        ensures means { (D.meaning down.new ≡ D.meaning down.old) × (R.meaning running.new ≡ R.meaning running.old) }
     {
         let (next, made) = self.make(down, running, command, out);
         match made {
@@ -48,11 +48,11 @@ impl Journal {
         commands: &[Command],
         text: &mut Vec<u8>,
     ) -> (Journal, Result<(), AllocError>)
-        ensures answers { (ld : Lawful (D.SharingRule.meaning down.old)) (lr : Lawful (R.SharingRule.meaning running.old)) → Replays (rules_for (D.SharingRule.meaning down.old) (R.SharingRule.meaning running.old) ld lr) (shown_journal self) commands.now (shown_journal result.0) text.old.items text.new.items result.1 }
+        ensures answers { (ld : Lawful (D.meaning down.old)) (lr : Lawful (R.meaning running.old)) → Replays (rules_for (D.meaning down.old) (R.meaning running.old) ld lr) (shown_journal self) commands.now (shown_journal result.0) text.old.items text.new.items result.1 }
         ensures numbered { Numbered (shown_journal self) → Numbered (shown_journal result.0) }
-        ensures life { (ld : Lawful (D.SharingRule.meaning down.old)) (lr : Lawful (R.SharingRule.meaning running.old)) (s : State) (before : List Call) → LawsOfALife s → Offered s before → final s before ≡ (shown_journal self).state → LawsOf s (before ++ calls_of (rules_for (D.SharingRule.meaning down.old) (R.SharingRule.meaning running.old) ld lr) (shown_journal self) commands.now) }
-        ensures lawful { Lawful (D.SharingRule.meaning down.old) × Lawful (R.SharingRule.meaning running.old) }
-        ensures means { (D.SharingRule.meaning down.new ≡ D.SharingRule.meaning down.old) × (R.SharingRule.meaning running.new ≡ R.SharingRule.meaning running.old) }
+        ensures life { (ld : Lawful (D.meaning down.old)) (lr : Lawful (R.meaning running.old)) (s : State) (before : List Call) → LawsOfALife s → Offered s before → final s before ≡ (shown_journal self).state → LawsOf s (before ++ calls_of (rules_for (D.meaning down.old) (R.meaning running.old) ld lr) (shown_journal self) commands.now) }
+        ensures lawful { Lawful (D.meaning down.old) × Lawful (R.meaning running.old) }
+        ensures means { (D.meaning down.new ≡ D.meaning down.old) × (R.meaning running.new ≡ R.meaning running.old) }
     {
         let mut out = [0u8; MOST_LINE_BYTES];
         let mut journal = self;

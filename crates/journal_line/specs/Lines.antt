@@ -12,7 +12,7 @@
 --   line_in       what a line says, or its fault; 35 is `#`
 use Rattle.std.specs.Prelude.{ℕ, cond, List, [], ◌∷◌, Some, None, Ok, Err, codes, Option, Result, ◌==◌}
 use Rattle.journal_line.specs.declared.calls.CallName.{CallName}
-use Rattle.journal_line.specs.declared.calls.CallName.TheVariants.{Open as openCall, Admit as admitCall, Remove as removeCall, HandIn as handInCall, TakeIn as takeInCall, Post as postCall, Correct as correctCall, Cost as costCall, Freeze as freezeCall, Reopen as reopenCall, Bill as billCall}
+use Rattle.journal_line.specs.declared.calls.CallName.TheVariants.{Open as open_call, Admit as admit_call, Remove as remove_call, HandIn as hand_in_call, TakeIn as take_in_call, Post as post_call, Correct as correct_call, Cost as cost_call, Freeze as freeze_call, Reopen as reopen_call, Bill as bill_call}
 use Rattle.journal_line.specs.declared.calls.Command.{Command}
 use Rattle.journal_line.specs.declared.calls.Command.TheVariants.{Admit, Remove, HandIn, TakeIn, Post, Correct, Cost, Freeze, Reopen, Bill}
 use Rattle.journal_line.specs.declared.calls.Fault.{Fault}
@@ -39,17 +39,17 @@ called call rest = Some (call, rest)
 
 abbrev pub call_in : List ℕ → Option (CallName × List ℕ)
 call_in text =
-    or_else (after_first (codes "open") text) (called openCall) (
-    or_else (after_first (codes "admit") text) (called admitCall) (
-    or_else (after_first (codes "remove") text) (called removeCall) (
-    or_else (after_first (codes "hand-in") text) (called handInCall) (
-    or_else (after_first (codes "take-in") text) (called takeInCall) (
-    or_else (after_first (codes "post") text) (called postCall) (
-    or_else (after_first (codes "correct") text) (called correctCall) (
-    or_else (after_first (codes "cost") text) (called costCall) (
-    or_else (after_first (codes "freeze") text) (called freezeCall) (
-    or_else (after_first (codes "reopen") text) (called reopenCall) (
-    or_else (after_first (codes "bill") text) (called billCall) None))))))))))
+    or_else (after_first (codes "open") text) (called open_call) (
+    or_else (after_first (codes "admit") text) (called admit_call) (
+    or_else (after_first (codes "remove") text) (called remove_call) (
+    or_else (after_first (codes "hand-in") text) (called hand_in_call) (
+    or_else (after_first (codes "take-in") text) (called take_in_call) (
+    or_else (after_first (codes "post") text) (called post_call) (
+    or_else (after_first (codes "correct") text) (called correct_call) (
+    or_else (after_first (codes "cost") text) (called cost_call) (
+    or_else (after_first (codes "freeze") text) (called freeze_call) (
+    or_else (after_first (codes "reopen") text) (called reopen_call) (
+    or_else (after_first (codes "bill") text) (called bill_call) None))))))))))
 
 abbrev pub next_in : ℕ → List ℕ → Option (ℕ × List ℕ)
 next_in most text = field_in (codes " ") most text
@@ -63,9 +63,9 @@ opening_in text =
     bind (next_in 65535 number.1) (λ customers.
     bind (next_in 255 customers.1) (λ days.
     bind (next_in 255 days.1) (λ subzones.
-    bind (next_in 65536 subzones.1) (λ unitRows.
-    bind (last_in 16384 unitRows.1) (λ costRows.
-    Some (record { number = number.0; sizes = record { customers = customers.0; days = days.0; subzones = subzones.0 }; unit_rows = unitRows.0; cost_rows = costRows })))))))
+    bind (next_in 65536 subzones.1) (λ unit_rows.
+    bind (last_in 16384 unit_rows.1) (λ cost_rows.
+    Some (record { number = number.0; sizes = record { customers = customers.0; days = days.0; subzones = subzones.0 }; unit_rows = unit_rows.0; cost_rows = cost_rows })))))))
 
 abbrev pub unit_row_in : List ℕ → Option UnitRow
 unit_row_in text =
@@ -105,17 +105,17 @@ abbrev pub bill_in : List ℕ → Option Command
 bill_in text = bind (next_in 255 text) (λ line. option_map (Bill line.0) (rule_in line.1))
 
 abbrev pub fields_in : CallName → List ℕ → Option Line
-fields_in openCall text = option_map Open (opening_in text)
-fields_in admitCall text = option_map (λ contributor. Call (Admit contributor)) (last_in 18446744073709551615 text)
-fields_in removeCall text = option_map (λ contributor. Call (Remove contributor)) (last_in 18446744073709551615 text)
-fields_in handInCall text = option_map (λ pass. Call (HandIn pass)) (last_in 4294967295 text)
-fields_in takeInCall text = option_map (λ pass. Call (TakeIn pass)) (last_in 4294967295 text)
-fields_in postCall text = option_map Call (post_in text)
-fields_in correctCall text = option_map Call (correct_in text)
-fields_in costCall text = option_map Call (cost_in text)
-fields_in freezeCall text = at_end text (Call Freeze)
-fields_in reopenCall text = at_end text (Call Reopen)
-fields_in billCall text = option_map Call (bill_in text)
+fields_in open_call text = option_map Open (opening_in text)
+fields_in admit_call text = option_map (λ contributor. Call (Admit contributor)) (last_in 18446744073709551615 text)
+fields_in remove_call text = option_map (λ contributor. Call (Remove contributor)) (last_in 18446744073709551615 text)
+fields_in hand_in_call text = option_map (λ pass. Call (HandIn pass)) (last_in 4294967295 text)
+fields_in take_in_call text = option_map (λ pass. Call (TakeIn pass)) (last_in 4294967295 text)
+fields_in post_call text = option_map Call (post_in text)
+fields_in correct_call text = option_map Call (correct_in text)
+fields_in cost_call text = option_map Call (cost_in text)
+fields_in freeze_call text = at_end text (Call Freeze)
+fields_in reopen_call text = at_end text (Call Reopen)
+fields_in bill_call text = option_map Call (bill_in text)
 
 abbrev pub or_fields : CallName → Option Line → Result Line Fault
 or_fields call (Some line) = Ok line

@@ -9,7 +9,7 @@ use Rattle.sharing.specs.Rule.{Rule}
 use Rattle.lines.specs.declared.line.Line.{Line}
 use Rattle.lines.specs.Lines.{line_of}
 use Rattle.lines.specs.Totals.{line_costs}
-use Rattle.bill_rules.specs.Bill.{Figures, Lengths, misfit, bill as lineBill}
+use Rattle.bill_rules.specs.Bill.{Figures, Lengths, misfit, bill as line_bill}
 use Rattle.bill_rules.specs.Laws.{Balances, Close, Agree}
 use Rattle.book_rules.specs.Machine.{open_refusal}
 use Rattle.book_rules.specs.Run.{State, Call, bill, billed, told_bill, Offered, final, answers, units_in, costs_in, at_opening}
@@ -18,7 +18,7 @@ use Rattle.book_rules.specs.Laws.{past, bill_after}
 
 pub record LawsOf (s : State) (calls : List Call) : Type 0 where
   pub follows : (before behind : List Call) (rule : Rule) (n : ℕ) (p : Lengths) → calls ≡ before ++ (bill rule n p ∷ behind) →
-      bill_after s before rule n p ≡ told_bill (lineBill rule.meaning n s.book.sizes (units_in (past s before)) (costs_in (past s before)) p)
+      bill_after s before rule n p ≡ told_bill (line_bill rule.meaning n s.book.sizes (units_in (past s before)) (costs_in (past s before)) p)
   pub balances : (before behind : List Call) (rule : Rule) (n : ℕ) (p : Lengths) (f : Figures) → calls ≡ before ++ (bill rule n p ∷ behind) →
       bill_after s before rule n p ≡ billed f → Balances f (line_costs n (costs_in (past s before)))
   pub close : (before behind : List Call) (rule : Rule) (n : ℕ) (p : Lengths) (l : Line) → calls ≡ before ++ (bill rule n p ∷ behind) →

@@ -106,8 +106,8 @@ impl Session {
         command: Command,
         text: &mut Vec<u8>,
     ) -> (Session, Result<Result<(), LineFault>, AllocError>)
-        ensures answers { (ld : Lawful (D.SharingRule.meaning down.old)) (lr : Lawful (R.SharingRule.meaning running.old)) → Answers (by_call (rules_for (D.SharingRule.meaning down.old) (R.SharingRule.meaning running.old) ld lr) (shown_session self) command) (shown_session self) (shown_session result.0) text.old.items text.new.items result.1 }
-        ensures means { (D.SharingRule.meaning down.new ≡ D.SharingRule.meaning down.old) × (R.SharingRule.meaning running.new ≡ R.SharingRule.meaning running.old) }
+        ensures answers { (ld : Lawful (D.meaning down.old)) (lr : Lawful (R.meaning running.old)) → Answers (by_call (rules_for (D.meaning down.old) (R.meaning running.old) ld lr) (shown_session self) command) (shown_session self) (shown_session result.0) text.old.items text.new.items result.1 }
+        ensures means { (D.meaning down.new ≡ D.meaning down.old) × (R.meaning running.new ≡ R.meaning running.old) }
     {
         match self {
             Session::Unopened => (Session::Unopened, Ok(Err(LineFault::NotOpened))),
@@ -131,8 +131,8 @@ impl Session {
         line: &[u8],
         text: &mut Vec<u8>,
     ) -> (Session, Result<Result<(), LineFault>, AllocError>)
-        ensures answers { (ld : Lawful (D.SharingRule.meaning down.old)) (lr : Lawful (R.SharingRule.meaning running.old)) → Answers (line_step (rules_for (D.SharingRule.meaning down.old) (R.SharingRule.meaning running.old) ld lr) (shown_session self) line.now) (shown_session self) (shown_session result.0) text.old.items text.new.items result.1 }
-        ensures means { (D.SharingRule.meaning down.new ≡ D.SharingRule.meaning down.old) × (R.SharingRule.meaning running.new ≡ R.SharingRule.meaning running.old) }
+        ensures answers { (ld : Lawful (D.meaning down.old)) (lr : Lawful (R.meaning running.old)) → Answers (line_step (rules_for (D.meaning down.old) (R.meaning running.old) ld lr) (shown_session self) line.now) (shown_session self) (shown_session result.0) text.old.items text.new.items result.1 }
+        ensures means { (D.meaning down.new ≡ D.meaning down.old) × (R.meaning running.new ≡ R.meaning running.old) }
     {
         let said = match parse_line(line) {
             Ok(said) => said,

@@ -21,7 +21,7 @@ use Rattle.lines.specs.Lines.{zonal, schedule, look_up, line_of}
 use Rattle.lines.specs.Cells.{axis, areas, cells, whole_days, days_for, station_days}
 use Rattle.lines.specs.Totals.{cost_in, line_costs}
 use Rattle.sharing.specs.Rule.{Meaning, Lawful}
-use Rattle.bill_rules.specs.Bill.{pool, counted, share_of, stationOf, recovered, creditOf, column, Figures, figures, figures_for, tooLargeAt, tooLarge, too_large_for, Lengths, bill_refusal, bill}
+use Rattle.bill_rules.specs.Bill.{pool, counted, share_of, station_of, recovered, credit_of, column, Figures, figures, figures_for, too_large_at, too_large, too_large_for, Lengths, bill_refusal, bill}
 use Rattle.bill_rules.specs.Laws.{LawfulRows}
 use Rattle.bill_rules.proofs.Agreement.{costs_allowed, accepted}
 use Rattle.bill_rules.proofs.Balance.{line_found, in_range, costs_once}
@@ -45,12 +45,12 @@ sum_within f most [] all = omega arith
 sum_within f most (x ∷ xs) (here, rest) = omega (arith, sum_by-cons f x xs, here, sum_within f most xs rest, add-mul 1 (length xs) most)
 
 -- where no R is too large, each is within the limit
-none_too_large : (m : Meaning) (l : Line) (z : Sizes) (us : List UnitRow) (cs : List CostRow) (ds : List Cell) → first_of (map (tooLargeAt m l z us cs) ds) ≡ None → All (λ d. recovered m l z us cs d ≤ most_amount) ds
+none_too_large : (m : Meaning) (l : Line) (z : Sizes) (us : List UnitRow) (cs : List CostRow) (ds : List Cell) → first_of (map (too_large_at m l z us cs) ds) ≡ None → All (λ d. recovered m l z us cs d ≤ most_amount) ds
 none_too_large m l z us cs [] none = tt
 none_too_large m l z us cs (d ∷ ds) none = go (ltb most_amount (recovered m l z us cs d)) refl none (none_too_large m l z us cs ds)
   where
-    go : (b : Bool) → ltb most_amount (recovered m l z us cs d) ≡ b → cond b (Some (tooLargeAt m l z us cs d).1) (first_of (map (tooLargeAt m l z us cs) ds)) ≡ None →
-        (first_of (map (tooLargeAt m l z us cs) ds) ≡ None → All (λ d. recovered m l z us cs d ≤ most_amount) ds) → All (λ d. recovered m l z us cs d ≤ most_amount) (d ∷ ds)
+    go : (b : Bool) → ltb most_amount (recovered m l z us cs d) ≡ b → cond b (Some (too_large_at m l z us cs d).1) (first_of (map (too_large_at m l z us cs) ds)) ≡ None →
+        (first_of (map (too_large_at m l z us cs) ds) ≡ None → All (λ d. recovered m l z us cs d ≤ most_amount) ds) → All (λ d. recovered m l z us cs d ≤ most_amount) (d ∷ ds)
     go true e h rest = let q : ◌≡◌ {A = ℕ} 0 1 = cc in absurd (omega arith)
     go false e h rest = (ltb-false most_amount (recovered m l z us cs d) e, rest h)
 
@@ -94,7 +94,7 @@ days_most None l z f le = omega arith
 days_most (Some station) l z f le = le
 
 module _ (m : Meaning) (law : Lawful m) (n : ℕ) (l : Line) (z : Sizes) (us : List UnitRow) (cs : List CostRow)
-    (is : line_of n ≡ Some l) (fit : unfit z ≡ false) (lawful : LawfulRows z us cs) (small : first_of (tooLarge m l z us cs) ≡ None) where
+    (is : line_of n ≡ Some l) (fit : unfit z ≡ false) (lawful : LawfulRows z us cs) (small : first_of (too_large m l z us cs) ≡ None) where
   sound : Sound l z us cs
   sound = sound_from n l z us cs is fit lawful
 
@@ -122,11 +122,11 @@ module _ (m : Meaning) (law : Lawful m) (n : ℕ) (l : Line) (z : Sizes) (us : L
   small_charges = column_le (share_of m l z us cs) (cells l z) most_charge charge_le
 
   small_stations : Upto (figures m l z us cs).stations (station_most (is_some l.station))
-  small_stations = column_le (stationOf m l z us cs) (station_days l z) (station_most (is_some l.station)) (λ k lt. days_within (stationOf m l z us cs k) (λ d. charge_within m l z us cs d k lt))
+  small_stations = column_le (station_of m l z us cs) (station_days l z) (station_most (is_some l.station)) (λ k lt. days_within (station_of m l z us cs k) (λ d. charge_within m l z us cs d k lt))
 
   small_credits : Upto (figures m l z us cs).credits (station_most (is_some l.station))
-  small_credits = column_le (creditOf m l z us cs) (station_days l z) (station_most (is_some l.station))
-      (λ k lt. days_within (creditOf m l z us cs k) (λ d. share_le m law (recovered m l z us cs d) (counted m l z us cs d) k (omega (arith, many_counted m law l z us cs sound d))))
+  small_credits = column_le (credit_of m l z us cs) (station_days l z) (station_most (is_some l.station))
+      (λ k lt. days_within (credit_of m l z us cs k) (λ d. share_le m law (recovered m l z us cs d) (counted m l z us cs d) k (omega (arith, many_counted m law l z us cs sound d))))
 
 -- the figures of an accepted bill
 pub record Small (n : ℕ) (z : Sizes) (f : Figures) : Type 0 where
@@ -153,8 +153,8 @@ figures_small m law n z us cs p f fit h =
           digit = one_digit n l is;
           customers_few = (sound m law n l z us cs is fit lawful small).customers_few;
           charges_many = length-map-range_with_len (λ k. sum_by (share_of m l z us cs k) (cells l z)) 0 z.customers;
-          stations_many = length-map-range_with_len (λ k. sum_by (stationOf m l z us cs k) (station_days l z)) 0 z.customers;
-          credits_many = length-map-range_with_len (λ k. sum_by (creditOf m l z us cs k) (station_days l z)) 0 z.customers;
+          stations_many = length-map-range_with_len (λ k. sum_by (station_of m l z us cs k) (station_days l z)) 0 z.customers;
+          credits_many = length-map-range_with_len (λ k. sum_by (credit_of m l z us cs k) (station_days l z)) 0 z.customers;
           charges_small = small_charges m law n l z us cs is fit lawful small;
           stations_small = subst (λ b. Upto (figures m l z us cs).stations (station_most b)) (sym part) (small_stations m law n l z us cs is fit lawful small);
           credits_small = subst (λ b. Upto (figures m l z us cs).credits (station_most b)) (sym part) (small_credits m law n l z us cs is fit lawful small);

@@ -27,11 +27,11 @@ station_digits_hold true x le = length-decimal-le 13 x (omega arith) (omega arit
 station_digits_hold false x le = length-decimal-le 1 x (omega arith) (omega arith) (omega arith)
 
 module _ (b : Bool) where
-  abbrev rowBytes : ℕ
-  rowBytes = 23 + station_digits b + station_digits b
+  abbrev row_bytes : ℕ
+  row_bytes = 23 + station_digits b + station_digits b
 
-  row_bytes : (n k charge station credit : ℕ) → n < 10 → k < 1000 → charge ≤ most_charge → station ≤ station_most b → credit ≤ station_most b → length (row_text n k charge station credit) ≤ rowBytes
-  row_bytes n k charge station credit dn dk dc ds dr =
+  row_bytes_within : (n k charge station credit : ℕ) → n < 10 → k < 1000 → charge ≤ most_charge → station ≤ station_most b → credit ≤ station_most b → length (row_text n k charge station credit) ≤ row_bytes
+  row_bytes_within n k charge station credit dn dk dc ds dr =
       let a₁ = length-append (decimal n) (field k) in
       let a₂ = length-append (decimal n ++ field k) (field charge) in
       let a₃ = length-append ((decimal n ++ field k) ++ field charge) (field station) in
@@ -45,7 +45,7 @@ module _ (b : Bool) where
       omega arith
 
   -- a customer without a figure has no row
-  shown_bytes : (t : Bool) (row : List ℕ) → length row ≤ rowBytes → length (cond t [] row) ≤ rowBytes
+  shown_bytes : (t : Bool) (row : List ℕ) → length row ≤ row_bytes → length (cond t [] row) ≤ row_bytes
   shown_bytes true row le = omega arith
   shown_bytes false row le = le
 
@@ -93,7 +93,7 @@ rows_most false = omega arith
 pub rows_fit : (n : ℕ) (z : Sizes) (f : Figures) → Small n z f → SFits w64 f.short → SFits w64 f.over → SFits w64 f.stranded → length (line_text n f) ≤ most_rows n
 rows_fit n z f small fs fo ft =
     let b = stationed (line_of n) in
-    let most = rowBytes b in
+    let most = row_bytes b in
     let g = customer_row n f.charges f.stations f.credits in
     let count = length f.charges in
     let few : count ≤ 256 = omega (arith, small.charges_many, small.customers_few) in
@@ -102,7 +102,7 @@ rows_fit n z f small fs fo ft =
     let same-c = small.charges_many in
     let each = all_counting (λ k. length (g k) ≤ most) count
     (λ k lt. shown_bytes b (figureless (get_or f.charges k 0) (get_or f.stations k 0) (get_or f.credits k 0)) _
-    (row_bytes b n k (get_or f.charges k 0) (get_or f.stations k 0) (get_or f.credits k 0) small.digit (omega arith) (small.charges_small k lt) (small.stations_small k (omega arith)) (small.credits_small k (omega arith)))) in
+    (row_bytes_within b n k (get_or f.charges k 0) (get_or f.stations k 0) (get_or f.credits k 0) small.digit (omega arith) (small.charges_small k lt) (small.stations_small k (omega arith)) (small.credits_small k (omega arith)))) in
     let rows = joined_within g most (range_with_len 0 count) each in
     let many = length-range_with_len 0 count in
     let top = station_most_holds b in

@@ -40,11 +40,11 @@ fn put_figures<R: SharingRule>(
     requires places { (length charges.old ≡ (frozen_book book.now).sizes.customers) × (length stations.old ≡ (frozen_book book.now).sizes.customers) × (length credits.old ≡ (frozen_book book.now).sizes.customers) }
     requires few { (frozen_book book.now).sizes.customers ≤ most_customers }
     requires room { length text.old ≡ most_line }
-    ensures answers { result ≡ answer (text_refusal (length out.old) place (rows_of (meaning rule.old) line (frozen_book book.now) units.now costs.now)) (place + length (text_in (rows_of (meaning rule.old) line (frozen_book book.now) units.now costs.now))) }
-    ensures out { out.new ≡ unless (text_refusal (length out.old) place (rows_of (meaning rule.old) line (frozen_book book.now) units.now costs.now)) out.old (pasted out.old place (text_in (rows_of (meaning rule.old) line (frozen_book book.now) units.now costs.now))) }
-    ensures short { IfOk (rows_of (meaning rule.old) line (frozen_book book.now) units.now costs.now) (λ rows. length rows ≤ most_rows line) }
-    ensures lawful { Lawful (meaning rule.old) }
-    ensures means { meaning rule.new ≡ meaning rule.old }
+    ensures answers { result ≡ answer (text_refusal (length out.old) place (rows_of (R.meaning rule.old) line (frozen_book book.now) units.now costs.now)) (place + length (text_in (rows_of (R.meaning rule.old) line (frozen_book book.now) units.now costs.now))) }
+    ensures out { out.new ≡ unless (text_refusal (length out.old) place (rows_of (R.meaning rule.old) line (frozen_book book.now) units.now costs.now)) out.old (pasted out.old place (text_in (rows_of (R.meaning rule.old) line (frozen_book book.now) units.now costs.now))) }
+    ensures short { IfOk (rows_of (R.meaning rule.old) line (frozen_book book.now) units.now costs.now) (λ rows. length rows ≤ most_rows line) }
+    ensures lawful { Lawful (R.meaning rule.old) }
+    ensures means { R.meaning rule.new ≡ R.meaning rule.old }
 {
     let left = match book.bill(rule, units, costs, line, charges, stations, credits) {
         Ok(left) => left,
@@ -66,11 +66,11 @@ pub fn put_bill<R: SharingRule>(
     units: &[UnitRow],
     costs: &[CostRow],
 ) -> Result<usize, Refusal>
-    ensures answers { result ≡ answer (text_refusal (length out.old) place (rows_of (meaning rule.old) line (frozen_book book.now) units.now costs.now)) (place + length (text_in (rows_of (meaning rule.old) line (frozen_book book.now) units.now costs.now))) }
-    ensures out { out.new ≡ unless (text_refusal (length out.old) place (rows_of (meaning rule.old) line (frozen_book book.now) units.now costs.now)) out.old (pasted out.old place (text_in (rows_of (meaning rule.old) line (frozen_book book.now) units.now costs.now))) }
-    ensures short { IfOk (rows_of (meaning rule.old) line (frozen_book book.now) units.now costs.now) (λ rows. length rows ≤ most_rows line) }
-    ensures lawful { Lawful (meaning rule.old) }
-    ensures means { meaning rule.new ≡ meaning rule.old }
+    ensures answers { result ≡ answer (text_refusal (length out.old) place (rows_of (R.meaning rule.old) line (frozen_book book.now) units.now costs.now)) (place + length (text_in (rows_of (R.meaning rule.old) line (frozen_book book.now) units.now costs.now))) }
+    ensures out { out.new ≡ unless (text_refusal (length out.old) place (rows_of (R.meaning rule.old) line (frozen_book book.now) units.now costs.now)) out.old (pasted out.old place (text_in (rows_of (R.meaning rule.old) line (frozen_book book.now) units.now costs.now))) }
+    ensures short { IfOk (rows_of (R.meaning rule.old) line (frozen_book book.now) units.now costs.now) (λ rows. length rows ≤ most_rows line) }
+    ensures lawful { Lawful (R.meaning rule.old) }
+    ensures means { R.meaning rule.new ≡ R.meaning rule.old }
 {
     let customers = book.customers();
     let mut charges = [0u64; 256];

@@ -82,7 +82,7 @@ pub fn belongs(kinds: Kinds, cell: Cell, kind: u8, place: Place) -> bool
 
 // The amounts of the rows of some kinds that lie in a cell.
 pub fn total<R: Row>(rows: &[R], kinds: Kinds, cell: Cell) -> u128
-    ensures sum { result ≡ total_in kinded placed amounts kinds cell rows.now }
+    ensures sum { result ≡ total_in R.kinded R.placed R.amounts kinds cell rows.now }
     ensures small { result < 2 ^ 100 }
 {
     let mut sum: u128 = 0;

@@ -17,7 +17,7 @@ use Rattle.tariff.specs.declared.rows.Sizes.{Sizes}
 use Rattle.tariff.specs.declared.rows.UnitRow.{UnitRow}
 use Rattle.tariff.specs.declared.rows.CostRow.{CostRow}
 use Rattle.unit_file.specs.Records.{Item}
-use Rattle.unit_file.specs.Reading.{open_refusal as fileRefusal, record_at}
+use Rattle.unit_file.specs.Reading.{open_refusal as file_refusal, record_at}
 use Rattle.book_rules.specs.Machine.{Book, Pass, new_pass, open_refusal}
 use Rattle.book_rules.specs.Run.{State, Outcome, admit, hand_in, freeze, step, final, at_opening, closed}
 use Rattle.book.specs.declared.states.FrozenBook.{FrozenBook}
@@ -30,7 +30,7 @@ sizes_in None (Err e) = Err e
 sizes_in None (Ok first) = header_in first
 
 abbrev pub file_sizes : List ℕ → Result Sizes Refusal
-file_sizes bytes = sizes_in (fileRefusal bytes) (record_at bytes 1)
+file_sizes bytes = sizes_in (file_refusal bytes) (record_at bytes 1)
 
 pub record Reached : Type 0 where
   pub refusal : Option Refusal

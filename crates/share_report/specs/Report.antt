@@ -16,7 +16,7 @@ use Rattle.std.specs.Prelude.{ℕ, Bool, true, false, cond, ◌||◌, List, [], 
 use Rattle.std.specs.List.{range_with_len, flat_map}
 use Rattle.std.specs.Fmt.{signed_decimal}
 use Rattle.tariff.specs.declared.refusal.Refusal.{Refusal}
-use Rattle.tariff.specs.Refusals.{words as refusalWords, answer}
+use Rattle.tariff.specs.Refusals.{words as refusal_words, answer}
 use Rattle.sharing.specs.Rule.{Meaning, share_refusal, division}
 use Rattle.sharing.specs.Rules.{down, running}
 use Rattle.sharing.specs.declared.Division.{Division}
@@ -24,20 +24,20 @@ use Rattle.share_report.specs.Numbers.{BadWord, numbers_of}
 use Rattle.text.specs.Words.{fault_words}
 
 abbrev pub row_text : ℕ → ℕ → ℕ → ℕ → List ℕ
-row_text customer units byDown byRunning =
-    decimal customer ++ (codes " " ++ (decimal units ++ (codes " " ++ (decimal byDown ++ (codes " " ++ (decimal byRunning ++ codes "\n"))))))
+row_text customer units by_down by_running =
+    decimal customer ++ (codes " " ++ (decimal units ++ (codes " " ++ (decimal by_down ++ (codes " " ++ (decimal by_running ++ codes "\n"))))))
 
 abbrev pub row_of : List ℕ → List ℕ → List ℕ → ℕ → List ℕ
-row_of units byDown byRunning k = row_text k (slice_index units k) (slice_index byDown k) (slice_index byRunning k)
+row_of units by_down by_running k = row_text k (slice_index units k) (slice_index by_down k) (slice_index by_running k)
 
 abbrev pub head_of : ℕ → List ℕ
 head_of pool = codes "pool " ++ (decimal pool ++ codes "\ncustomer units down running\n")
 
 abbrev pub sum_text : ℕ → ℕ → ℕ → List ℕ
-sum_text units byDown byRunning = codes "sum " ++ (decimal units ++ (codes " " ++ (decimal byDown ++ (codes " " ++ (decimal byRunning ++ codes "\n")))))
+sum_text units by_down by_running = codes "sum " ++ (decimal units ++ (codes " " ++ (decimal by_down ++ (codes " " ++ (decimal by_running ++ codes "\n")))))
 
 abbrev pub left_text : ℤ → ℤ → List ℕ
-left_text byDown byRunning = codes "left over " ++ (signed_decimal byDown ++ (codes " " ++ (signed_decimal byRunning ++ codes "\n")))
+left_text by_down by_running = codes "left over " ++ (signed_decimal by_down ++ (codes " " ++ (signed_decimal by_running ++ codes "\n")))
 
 -- the sums, and what each rule leaves of the pool
 abbrev pub foot_of : Division → Division → List ℕ
@@ -65,7 +65,7 @@ abbrev pub empty_line : List ℕ
 empty_line = codes "share: word 1 is missing: the pool in cents, and after it the units of each customer\n"
 
 abbrev pub refused_line : Refusal → List ℕ
-refused_line e = codes "share: " ++ (refusalWords e ++ codes "\n")
+refused_line e = codes "share: " ++ (refusal_words e ++ codes "\n")
 
 abbrev pub divided_by : Option Refusal → ℕ → List ℕ → Bool × List ℕ
 divided_by (Some e) pool units = (false, refused_line e)

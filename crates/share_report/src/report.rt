@@ -68,7 +68,7 @@ fn shares_of<R: SharingRule>(
     pool: u32,
     units: &[u32],
 ) -> Result<Result<Shares, Refusal>, AllocError>
-    ensures { IfOk result (λ got. shown_shares got ≡ shares_of (meaning rule.old) pool units.now) }
+    ensures { IfOk result (λ got. shown_shares got ≡ shares_of (R.meaning rule.old) pool units.now) }
 {
     let mut column = vec![in heap; 0u32; units.len()]?;
     match divide(rule, pool, units, column.as_mut_slice()) {

@@ -20,7 +20,7 @@ mod tests {
     }
 
     impl<R: SharingRule> SharingRule for Counted<R> {
-        ghost meaning = { λ s. R.SharingRule.meaning s.rule };
+        ghost meaning = { λ s. R.meaning s.rule };
 
         ghost lawful = { Prim.search rules };
 

@@ -8,7 +8,7 @@ use Rattle.tariff.proofs.Refused.{ok_tells}
 use Rattle.lines.specs.Lines.{line_of}
 use Rattle.lines.specs.Cells.{cells, station_days}
 use Rattle.bill_rules.specs.declared.Remainders.{Remainders}
-use Rattle.bill_rules.specs.Bill.{share_of, stationOf, creditOf, column, figures, tooLarge, told, column_after}
+use Rattle.bill_rules.specs.Bill.{share_of, station_of, credit_of, column, figures, too_large, told, column_after}
 use Rattle.bill_rules.proofs.Balance.{line_found, charges_balance, credits_balance}
 use Rattle.bill_rules.proofs.Agreement.{costs_allowed}
 use Rattle.billing.specs.Work.{Adds, Upto, charged_in}
@@ -62,14 +62,14 @@ returns g c =
     let us = c.args.basis.units.now in
     let cs = c.args.basis.costs.now in
     let f = figures m l z us cs in
-    let none = (ok_tells (first_of (tooLarge m l z us cs)) c.in-ok-station-part.field-0 tt c.in-ok-station-part.ensures.answers).0 in
+    let none = (ok_tells (first_of (too_large m l z us cs)) c.in-ok-station-part.field-0 tt c.in-ok-station-part.ensures.answers).0 in
     let credited = c.in-ok-station-part.ensures.credited in
     let stations-are : c.copy-from-slice.new.self ≡ f.stations =
     c.copy-from-slice.ensures.after
-    ∙ filled c.args.station-work.now c.station-part.new.stations z.customers (λ k. sum_by (stationOf m l z us cs k) (station_days l z)) c.requires.work-places.0 (omega (arith, c.requires.work-places.0)) c.requires.zeros.0 credited.stations_added in
+    ∙ filled c.args.station-work.now c.station-part.new.stations z.customers (λ k. sum_by (station_of m l z us cs k) (station_days l z)) c.requires.work-places.0 (omega (arith, c.requires.work-places.0)) c.requires.zeros.0 credited.stations_added in
     let credits-are : c.copy-from-slice-2.new.self ≡ f.credits =
     c.copy-from-slice-2.ensures.after
-    ∙ filled c.args.credit-work.now c.station-part.new.credits z.customers (λ k. sum_by (creditOf m l z us cs k) (station_days l z)) c.requires.work-places.1 (omega (arith, c.requires.work-places.1)) c.requires.zeros.1 credited.credits_added in
+    ∙ filled c.args.credit-work.now c.station-part.new.credits z.customers (λ k. sum_by (credit_of m l z us cs k) (station_days l z)) c.requires.work-places.1 (omega (arith, c.requires.work-places.1)) c.requires.zeros.1 credited.credits_added in
     let blank = zeros (length c.args.charges.now) c.fill.new.self (c.fill.ensures.after (λ y e. e)) in
     let charged = subst (λ m. Adds c.fill.new.self c.charge-line-stranded.new.charges (charged_in m l z us cs (cells l z))) c.station-part.ensures.means c.charge-line-stranded.ensures.charged in
     let charges-are : c.charge-line-stranded.new.charges ≡ f.charges =

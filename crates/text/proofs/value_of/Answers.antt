@@ -9,8 +9,8 @@ use Rattle.text.proofs.value_of.Goals as goal
 here : (digits : List ℕ) (i : ℕ) → i < length digits → all_digits (drop i digits) ≡ true → (48 ≤ get_or digits i 0) × (get_or digits i 0 ≤ 57) × (all_digits (drop (i + 1) digits) ≡ true)
 here digits i lt all = digits_front (get_or digits i 0) (drop (i + 1) digits) (sym (at_drop_more all_digits digits i 0 lt) ∙ all)
 
-pub overflow-sub-b : goal.overflow-sub-b
-overflow-sub-b c = omega (arith, (here c.args.digits.now c.loop-b.b-index c.loop-b-test.true c.loop-b.invariant.1).0)
+pub overflow_sub-b : goal.overflow_sub-b
+overflow_sub-b c = omega (arith, (here c.args.digits.now c.loop-b.b-index c.loop-b-test.true c.loop-b.invariant.1).0)
 
 -- one digit more
 step : (digits : List ℕ) (i value d : ℕ) → i < length digits → d ≡ get_or digits i 0 - 48 → value_from 0 digits ≡ value_from value (drop i digits) → value_from 0 digits ≡ value_from (10 * value + d) (drop (i + 1) digits)

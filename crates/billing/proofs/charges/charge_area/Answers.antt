@@ -1,7 +1,7 @@
 use Rattle.std.proofs.Common.{◌≡◌, ℕ, ◌^◌, length, sym, refl, ap, ◌∙◌, subst, arith}
 use Rattle.lines.specs.Lines.{dated}
 use Rattle.lines.specs.Cells.{hour_cells, days}
-use Rattle.bill_rules.specs.Bill.{share_of, strandedOf}
+use Rattle.bill_rules.specs.Bill.{share_of, stranded_of}
 use Rattle.bill_rules.proofs.Sums.{sum_by_joined}
 use Rattle.billing.specs.Work.{Adds, charged_in, stranded_in}
 use Rattle.billing.proofs.Walks.{count_none, count_more, adds_none, adds_more, end_le, first_le, on_it, all_met}
@@ -76,7 +76,7 @@ returns g c =
     let first = first_le c.of-days.result c.dated.result (dated l.span) z.days c.of-days.ensures c.dated.ensures in
     let all = λ (f : ℕ → ℕ). all_met c.of-days.result c.dated.result (dated l.span) z.days c.of-days.ensures c.dated.ensures f c.loop-day.day c.loop-day-test.false (omega arith) in
     record {
-      stranded = c.loop-day.invariant.0 ∙ all S ∙ sym (sum_by_joined (strandedOf m l z us cs) (hour_cells l c.args.area) (days l z));
+      stranded = c.loop-day.invariant.0 ∙ all S ∙ sym (sum_by_joined (stranded_of m l z us cs) (hour_cells l c.args.area) (days l z));
       small = omega (arith, c.loop-day.invariant.1);
       charged = λ k h. omega (arith, c.loop-day.invariant.2 k h, all (F k), sum_by_joined (share_of m l z us cs k) (hour_cells l c.args.area) (days l z));
       rises = λ k h. omega (arith, c.loop-day.invariant.3 k h);

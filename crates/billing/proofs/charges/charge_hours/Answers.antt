@@ -2,7 +2,7 @@ use Rattle.std.proofs.Common.{◌≡◌, ℕ, ◌^◌, length, sym, refl, ap, �
 use Rattle.tariff.specs.Limits.{hours_of_day}
 use Rattle.lines.specs.Lines.{timed}
 use Rattle.lines.specs.Cells.{cell, hours}
-use Rattle.bill_rules.specs.Bill.{share_of, strandedOf}
+use Rattle.bill_rules.specs.Bill.{share_of, stranded_of}
 use Rattle.bill_rules.proofs.Sums.{sum_by_map}
 use Rattle.billing.specs.Work.{Adds}
 use Rattle.billing.proofs.Walks.{count_none, count_more, adds_none, adds_more, end_le, first_le, all_met}
@@ -16,7 +16,7 @@ loop-hour-init g c =
     let us = c.args.basis.units.now in
     let cs = c.args.basis.costs.now in
     let F : ℕ → ℕ → ℕ = λ k h. share_of m l z us cs k (cell c.args.area c.args.day h) in
-    let S : ℕ → ℕ = λ h. strandedOf m l z us cs (cell c.args.area c.args.day h) in
+    let S : ℕ → ℕ = λ h. stranded_of m l z us cs (cell c.args.area c.args.day h) in
     (sym (count_none S c.of-hours.result.first), omega arith, adds_none c.args.charges.now F c.of-hours.result.first, λ k h. omega arith, refl)
 
 pub charge-cell-stranded-requires : goal.charge-cell-stranded-requires
@@ -42,7 +42,7 @@ loop-hour-preserved g c =
     let us = c.args.basis.units.now in
     let cs = c.args.basis.costs.now in
     let F : ℕ → ℕ → ℕ = λ k h. share_of m l z us cs k (cell c.args.area c.args.day h) in
-    let S : ℕ → ℕ = λ h. strandedOf m l z us cs (cell c.args.area c.args.day h) in
+    let S : ℕ → ℕ = λ h. stranded_of m l z us cs (cell c.args.area c.args.day h) in
     let a = c.of-hours.result.first in
     let x = c.loop-hour.hour in
     let here = subst (λ m. Adds c.loop-hour.charges c.charge-cell-stranded.new.charges (λ k. share_of m l z us cs k (cell c.args.area c.args.day x))) c.loop-hour.invariant.4 c.charge-cell-stranded.ensures.charged in (
@@ -66,7 +66,7 @@ returns g c =
     let first = first_le ax c.timed.result (timed l.span) hours_of_day c.of-hours.ensures c.timed.ensures in
     let all = λ (f : ℕ → ℕ). all_met ax c.timed.result (timed l.span) hours_of_day c.of-hours.ensures c.timed.ensures f c.loop-hour.hour c.loop-hour-test.false (omega arith) in
     record {
-      stranded = c.loop-hour.invariant.0 ∙ all (λ h. strandedOf m l z us cs (at h)) ∙ sym (sum_by_map (strandedOf m l z us cs) at (hours l));
+      stranded = c.loop-hour.invariant.0 ∙ all (λ h. stranded_of m l z us cs (at h)) ∙ sym (sum_by_map (stranded_of m l z us cs) at (hours l));
       small = omega (arith, c.loop-hour.invariant.1);
       charged = λ k h. omega (arith, c.loop-hour.invariant.2 k h, all (λ h. share_of m l z us cs k (at h)), sum_by_map (share_of m l z us cs k) at (hours l));
       rises = λ k h. omega (arith, c.loop-hour.invariant.3 k h);

@@ -1,7 +1,7 @@
 use Rattle.std.proofs.Common.{◌≡◌, ℕ, ◌^◌, length, sym, refl, ap, ◌∙◌, subst, arith}
 use Rattle.lines.specs.Lines.{zonal}
 use Rattle.lines.specs.Cells.{day_cells, areas}
-use Rattle.bill_rules.specs.Bill.{share_of, strandedOf}
+use Rattle.bill_rules.specs.Bill.{share_of, stranded_of}
 use Rattle.bill_rules.proofs.Sums.{sum_by_joined}
 use Rattle.billing.specs.Work.{Adds, charged_in, stranded_in}
 use Rattle.billing.proofs.Walks.{count_none, count_more, adds_none, adds_more, end_le, first_le, on_it, all_met}
@@ -76,7 +76,7 @@ returns g c =
     let first = first_le c.of-areas.result c.zonal.result (zonal l.area) z.subzones c.of-areas.ensures c.zonal.ensures in
     let all = λ (f : ℕ → ℕ). all_met c.of-areas.result c.zonal.result (zonal l.area) z.subzones c.of-areas.ensures c.zonal.ensures f c.loop-area.area c.loop-area-test.false (omega arith) in
     record {
-      stranded = c.loop-area.invariant.0 ∙ all S ∙ sym (sum_by_joined (strandedOf m l z us cs) (day_cells l z) (areas l z));
+      stranded = c.loop-area.invariant.0 ∙ all S ∙ sym (sum_by_joined (stranded_of m l z us cs) (day_cells l z) (areas l z));
       small = omega (arith, c.loop-area.invariant.1);
       charged = λ k h. omega (arith, c.loop-area.invariant.2 k h, all (F k), sum_by_joined (share_of m l z us cs k) (day_cells l z) (areas l z));
       rises = λ k h. omega (arith, c.loop-area.invariant.3 k h);

@@ -7,7 +7,7 @@ use Rattle.tariff.specs.Limits.{most_amount}
 use Rattle.tariff.specs.Refusals.{answer}
 use Rattle.lines.specs.declared.line.Kinds.TheVariants.{Only}
 use Rattle.sharing.specs.Rule.{share_refusal}
-use Rattle.bill_rules.specs.Bill.{units_in, counted, recovered, creditsIn}
+use Rattle.bill_rules.specs.Bill.{units_in, counted, recovered, credits_in}
 use Rattle.billing.proofs.Adding.{units_le}
 use Rattle.billing.proofs.Pools.{not_refused, share_le, many_counted}
 use Rattle.billing.proofs.Recovers.{used_at, charge_is, recovered_is, charge_within}
@@ -111,7 +111,7 @@ returns g c =
     c.charge-stations-recovered.ensures.recovered
     ∙ recovered_is m l z us cs c.args.station c.requires.has at c.args.pool c.column-total.result c.fill-both.new.other-column c.requires.cents.0 total-is used-is in
     let law = g.met.R.SharingRule.lawful c.args.rule.now in
-    let credits-are : c.share-out.new.column ≡ creditsIn m l z us cs at =
+    let credits-are : c.share-out.new.column ≡ credits_in m l z us cs at =
     c.share-out.ensures.writes ∙ ap (m c.charge-stations-recovered.result) counted_is ∙ ap (λ R. m R (counted m l z us cs at)) R-is in
     let charged = charge_is m l z us cs c.args.station c.requires.has at c.args.pool c.column-total.result c.fill-both.new.other-column c.requires.cents.0 total-is used-is in
     record {

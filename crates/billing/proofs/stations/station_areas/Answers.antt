@@ -6,7 +6,7 @@ use Rattle.tariff.specs.Refusals.{first_of, answer}
 use Rattle.tariff.proofs.Refused.{ok_tells, err_tells}
 use Rattle.lines.specs.Lines.{zonal}
 use Rattle.lines.specs.Cells.{cell, whole_days}
-use Rattle.bill_rules.specs.Bill.{tooLargeAt}
+use Rattle.bill_rules.specs.Bill.{too_large_at}
 use Rattle.billing.specs.Work.{Credited}
 use Rattle.billing.proofs.Credits.{map_as_joined, joined_none, joined_first, before_more, credited_none, credited_more, credited_all}
 use Rattle.billing.proofs.Walks.{end_le, first_le, on_it, axis_is}
@@ -53,7 +53,7 @@ returns-in-err-station-days g c =
     let few = c.requires.sound.subzones_few in
     let end = end_le c.of-areas.result c.zonal.result (zonal l.area) z.subzones c.of-areas.ensures c.zonal.ensures in
     let begin = first_le c.of-areas.result c.zonal.result (zonal l.area) z.subzones c.of-areas.ensures c.zonal.ensures in
-    let t = tooLargeAt m l z us cs in
+    let t = too_large_at m l z us cs in
     let at = c.loop-area.area in
     let p = err_from_is_err_and c.from-residual.result c.from-residual.ensures.1 in
     let e = c.in-err-station-days.field-0.0 in
@@ -71,7 +71,7 @@ loop-area-preserved g c =
     let z = c.args.basis.sizes in
     let us = c.args.basis.units.now in
     let cs = c.args.basis.costs.now in
-    let t = tooLargeAt m l z us cs in
+    let t = too_large_at m l z us cs in
     let at = c.loop-area.area in
     let none = (ok_tells (first_of (map t (whole_days z at))) c.in-ok-station-days.field-0 tt c.in-ok-station-days.ensures.answers).0 in
     let here = subst (λ m. Credited m l z us cs (whole_days z at) (2 ^ 36) c.loop-area.stations c.station-days.new.stations c.loop-area.credits c.station-days.new.credits) c.loop-area.invariant.2 c.in-ok-station-days.ensures.credited in (
@@ -90,7 +90,7 @@ returns g c =
     let few = c.requires.sound.subzones_few in
     let end = end_le c.of-areas.result c.zonal.result (zonal l.area) z.subzones c.of-areas.ensures c.zonal.ensures in
     let begin = first_le c.of-areas.result c.zonal.result (zonal l.area) z.subzones c.of-areas.ensures c.zonal.ensures in
-    let t = tooLargeAt m l z us cs in
+    let t = too_large_at m l z us cs in
     let at = c.loop-area.area in
     let met : at - c.of-areas.result.first ≡ (c.of-areas.result.end - c.of-areas.result.first) = omega arith in
     record {

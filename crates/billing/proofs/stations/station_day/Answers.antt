@@ -4,7 +4,7 @@ use Rattle.tariff.specs.declared.refusal.Refusal.TheVariants.{StationChargesTooL
 use Rattle.tariff.specs.Limits.{most_amount, most_customers}
 use Rattle.tariff.specs.Refusals.{answer}
 use Rattle.lines.specs.Cells.{cell}
-use Rattle.bill_rules.specs.Bill.{pool, counted, recovered, creditOf}
+use Rattle.bill_rules.specs.Bill.{pool, counted, recovered, credit_of}
 use Rattle.billing.proofs.Adding.{part_length}
 use Rattle.billing.proofs.Pools.{empty_pool, many_counted}
 use Rattle.billing.proofs.Recovers.{no_charge, nothing_recovered}
@@ -24,7 +24,7 @@ returns-then-pool-eq0 g c =
     let at = cell c.args.area c.args.day 0 in
     let zero : pool m l z us cs at ≡ 0 = sym c.pool-pool.ensures ∙ c.if-pool-eq0.true in
     let none = nothing_recovered m l z us cs at zero in
-    let credit : (k : ℕ) → k < z.customers → creditOf m l z us cs k at ≡ 0 = λ k lt.
+    let credit : (k : ℕ) → k < z.customers → credit_of m l z us cs k at ≡ 0 = λ k lt.
     ap (λ R. get_or (m R (counted m l z us cs at)) k 0) none ∙ empty_pool m law (counted m l z us cs at) k (omega (arith, many_counted m law l z us cs c.requires.sound at)) in
     record {
       answers = sym (ap (λ b. answer (cond b (Some (StationChargesTooLarge c.args.area c.args.day)) None) tt) (le-ltb most_amount (recovered m l z us cs at) (omega arith)));

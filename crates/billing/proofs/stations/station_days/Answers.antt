@@ -6,7 +6,7 @@ use Rattle.tariff.specs.Refusals.{first_of, answer}
 use Rattle.tariff.proofs.Refused.{ok_tells, err_tells}
 use Rattle.lines.specs.Lines.{zonal}
 use Rattle.lines.specs.Cells.{cell, whole_days}
-use Rattle.bill_rules.specs.Bill.{tooLargeAt}
+use Rattle.bill_rules.specs.Bill.{too_large_at}
 use Rattle.billing.specs.Work.{Credited}
 use Rattle.billing.proofs.Credits.{map_as_joined, joined_none, joined_first, before_more, credited_none, credited_more, credited_all}
 use Rattle.billing.proofs.Walks.{end_le, first_le, on_it, axis_is}
@@ -46,7 +46,7 @@ returns-in-err-station-day g c =
     let us = c.args.basis.units.now in
     let cs = c.args.basis.costs.now in
     let few = c.requires.sound.days_few in
-    let t = tooLargeAt m l z us cs in
+    let t = too_large_at m l z us cs in
     let at = c.loop-day.day in
     let p = err_from_is_err_and c.from-residual.result c.from-residual.ensures.1 in
     let e = c.in-err-station-day.field-0.0 in
@@ -64,7 +64,7 @@ loop-day-preserved g c =
     let z = c.args.basis.sizes in
     let us = c.args.basis.units.now in
     let cs = c.args.basis.costs.now in
-    let t = tooLargeAt m l z us cs in
+    let t = too_large_at m l z us cs in
     let at = c.loop-day.day in
     let none = (ok_tells (first_of (map t (cell c.args.area at 0 ∷ []))) c.in-ok-station-day.field-0 tt c.in-ok-station-day.ensures.answers).0 in
     let here = subst (λ m. Credited m l z us cs (cell c.args.area at 0 ∷ []) (2 ^ 31) c.loop-day.stations c.station-day.new.stations c.loop-day.credits c.station-day.new.credits) c.loop-day.invariant.2 c.in-ok-station-day.ensures.credited in (
@@ -81,7 +81,7 @@ returns g c =
     let us = c.args.basis.units.now in
     let cs = c.args.basis.costs.now in
     let few = c.requires.sound.days_few in
-    let t = tooLargeAt m l z us cs in
+    let t = too_large_at m l z us cs in
     let at = c.loop-day.day in
     let met : at - (1) ≡ z.days = omega arith in
     record {

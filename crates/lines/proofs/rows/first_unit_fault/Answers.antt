@@ -13,15 +13,15 @@ use Rattle.lines.proofs.rows.first_unit_fault.Goals as goal
 up_to : (units : List UnitRow) (i sum : ℕ) → i < length units → sum ≡ all_quantities (take i units) → sum + (get_or units i no_units).quantity ≡ all_quantities (take (i + 1) units)
 up_to units i sum lt e = omega (arith, sum_by_more (λ (u : UnitRow). u.quantity) units i no_units lt)
 
-pub returns-then-unit-faulty : goal.returns-then-unit-faulty
-returns-then-unit-faulty c =
+pub returns-then-unit_faulty : goal.returns-then-unit_faulty
+returns-then-unit_faulty c =
     let z = c.args.sizes in
     let units = c.args.units.now in
     let i = c.loop-i.i in
     let up = up_to units i c.loop-i.sum c.loop-i-test.true c.loop-i.invariant.0 in
     let e : c.loop-i.sum + c.from-sum.result ≡ all_quantities (take (i + 1) units) = omega arith in
     sym (first_at (unit_fault z units) (λ i. UnlawfulRow UnitTable i) (length units) i c.loop-i-test.true c.loop-i.invariant.2
-    (ap (λ t. unlawful_unit z (get_or units i no_units) || ltb most_amount t) (sym e) ∙ sym c.if-unit-faulty.ensures))
+    (ap (λ t. unlawful_unit z (get_or units i no_units) || ltb most_amount t) (sym e) ∙ sym c.if-unit_faulty.ensures))
 
 pub loop-i-preserved : goal.loop-i-preserved
 loop-i-preserved c =
@@ -33,7 +33,7 @@ loop-i-preserved c =
       e,
       omega arith,
       below_more (λ k. unit_fault z units k ≡ false) i c.loop-i.invariant.2
-          (ap (λ t. unlawful_unit z (get_or units i no_units) || ltb most_amount t) (sym e) ∙ sym c.if-unit-faulty.ensures),
+          (ap (λ t. unlawful_unit z (get_or units i no_units) || ltb most_amount t) (sym e) ∙ sym c.if-unit_faulty.ensures),
     )
 
 pub returns : goal.returns
