@@ -12,13 +12,13 @@ returns-in-Some c m =
     let z = sizes_of c.args.sizes.now in
     let p : Lengths = record { charges = c.args.charges; stations = c.args.stations; credits = c.args.credits } in
     let all = ap (λ (z : Sizes). z.customers) c.sizes.ensures in
-    let is = line_told (line_of c.args.line) c.in-ok-line.line FieldOutOfRange c.in-ok-line.ensures in
-    found_unit c.args.line c.in-ok-line.line z c.args.units.now c.args.costs.now p is (fitting z p (omega arith) (omega arith) (omega arith)) m c.in-Some.refusal (sym c.in-Some.ensures)
+    let is = line_told (line_of c.args.line) c.in_ok-line.line FieldOutOfRange c.in_ok-line.ensures in
+    found_unit c.args.line c.in_ok-line.line z c.args.units.now c.args.costs.now p is (fitting z p (omega arith) (omega arith) (omega arith)) m c.in-Some.refusal (sym c.in-Some.ensures)
 
-pub returns-in-Some-cost-fault : goal.returns-in-Some-cost-fault
-returns-in-Some-cost-fault c m =
+pub returns-in-Some-cost_fault : goal.returns-in-Some-cost_fault
+returns-in-Some-cost_fault c m =
     let z = sizes_of c.args.sizes.now in
     let p : Lengths = record { charges = c.args.charges; stations = c.args.stations; credits = c.args.credits } in
     let all = ap (λ (z : Sizes). z.customers) c.sizes.ensures in
-    let is = line_told (line_of c.args.line) c.in-ok-line.line FieldOutOfRange c.in-ok-line.ensures in
-    found_cost c.args.line c.in-ok-line.line z c.args.units.now c.args.costs.now p is (fitting z p (omega arith) (omega arith) (omega arith)) m c.in-Some-cost-fault.refusal (sym c.in-default.ensures) (sym c.in-Some-cost-fault.ensures)
+    let is = line_told (line_of c.args.line) c.in_ok-line.line FieldOutOfRange c.in_ok-line.ensures in
+    found_cost c.args.line c.in_ok-line.line z c.args.units.now c.args.costs.now p is (fitting z p (omega arith) (omega arith) (omega arith)) m c.in-Some-cost_fault.refusal (sym c.in_default.ensures) (sym c.in-Some-cost_fault.ensures)

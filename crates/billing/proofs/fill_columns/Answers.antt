@@ -39,18 +39,18 @@ remainders-requires g c =
     let us = c.args.basis.units.now in
     let cs = c.args.basis.costs.now in
     let few = c.requires.sound.customers_few in
-    let credited = c.in-ok-station-part.ensures.credited in
+    let credited = c.in_ok-station_part.ensures.credited in
     let blank = zeros (length c.args.charges.now) c.fill.new.self (c.fill.ensures.after (λ y e. e)) in
     let number = line_found c.requires.line.0 l c.requires.line.1 in
     let is : line_of l.number ≡ Some l = ap line_of (sym number) ∙ c.requires.line.1 in
     record {
       few = (omega (arith, c.requires.places.0), omega (arith, c.requires.places.1), omega (arith, c.requires.places.2));
       small = (
-        λ k h. omega (arith, c.charge-line-stranded.ensures.rises k (omega arith), blank k (omega arith)),
-        λ k h. omega (arith, ap (λ xs. get_or xs k 0) c.copy-from-slice.ensures.after, credited.stations_rise k (omega (arith, c.requires.places.1, c.requires.work-places.0)), c.requires.zeros.0 k (omega (arith, c.requires.places.1, c.requires.work-places.0))),
-        λ k h. omega (arith, ap (λ xs. get_or xs k 0) c.copy-from-slice-2.ensures.after, credited.credits_rise k (omega (arith, c.requires.places.2, c.requires.work-places.1)), c.requires.zeros.1 k (omega (arith, c.requires.places.2, c.requires.work-places.1))),
+        λ k h. omega (arith, c.charge_line-stranded.ensures.rises k (omega arith), blank k (omega arith)),
+        λ k h. omega (arith, ap (λ xs. get_or xs k 0) c.copy_from_slice.ensures.after, credited.stations_rise k (omega (arith, c.requires.places.1, c.requires.work_places.0)), c.requires.zeros.0 k (omega (arith, c.requires.places.1, c.requires.work_places.0))),
+        λ k h. omega (arith, ap (λ xs. get_or xs k 0) c.copy_from_slice-2.ensures.after, credited.credits_rise k (omega (arith, c.requires.places.2, c.requires.work_places.1)), c.requires.zeros.1 k (omega (arith, c.requires.places.2, c.requires.work_places.1))),
       );
-      bounds = (omega (arith, c.all-costs.ensures, costs_bounded l z us cs is c.requires.lawful c.requires.sound), omega (arith, c.charge-line-stranded.ensures.small));
+      bounds = (omega (arith, c.all_costs.ensures, costs_bounded l z us cs is c.requires.lawful c.requires.sound), omega (arith, c.charge_line-stranded.ensures.small));
     }
 
 pub returns : goal.returns
@@ -62,31 +62,31 @@ returns g c =
     let us = c.args.basis.units.now in
     let cs = c.args.basis.costs.now in
     let f = figures m l z us cs in
-    let none = (ok_tells (first_of (too_large m l z us cs)) c.in-ok-station-part.field-0 tt c.in-ok-station-part.ensures.answers).0 in
-    let credited = c.in-ok-station-part.ensures.credited in
-    let stations-are : c.copy-from-slice.new.self ≡ f.stations =
-    c.copy-from-slice.ensures.after
-    ∙ filled c.args.station-work.now c.station-part.new.stations z.customers (λ k. sum_by (station_of m l z us cs k) (station_days l z)) c.requires.work-places.0 (omega (arith, c.requires.work-places.0)) c.requires.zeros.0 credited.stations_added in
-    let credits-are : c.copy-from-slice-2.new.self ≡ f.credits =
-    c.copy-from-slice-2.ensures.after
-    ∙ filled c.args.credit-work.now c.station-part.new.credits z.customers (λ k. sum_by (credit_of m l z us cs k) (station_days l z)) c.requires.work-places.1 (omega (arith, c.requires.work-places.1)) c.requires.zeros.1 credited.credits_added in
+    let none = (ok_tells (first_of (too_large m l z us cs)) c.in_ok-station_part.field-0 tt c.in_ok-station_part.ensures.answers).0 in
+    let credited = c.in_ok-station_part.ensures.credited in
+    let stations-are : c.copy_from_slice.new.self ≡ f.stations =
+    c.copy_from_slice.ensures.after
+    ∙ filled c.args.station_work.now c.station_part.new.stations z.customers (λ k. sum_by (station_of m l z us cs k) (station_days l z)) c.requires.work_places.0 (omega (arith, c.requires.work_places.0)) c.requires.zeros.0 credited.stations_added in
+    let credits-are : c.copy_from_slice-2.new.self ≡ f.credits =
+    c.copy_from_slice-2.ensures.after
+    ∙ filled c.args.credit_work.now c.station_part.new.credits z.customers (λ k. sum_by (credit_of m l z us cs k) (station_days l z)) c.requires.work_places.1 (omega (arith, c.requires.work_places.1)) c.requires.zeros.1 credited.credits_added in
     let blank = zeros (length c.args.charges.now) c.fill.new.self (c.fill.ensures.after (λ y e. e)) in
-    let charged = subst (λ m. Adds c.fill.new.self c.charge-line-stranded.new.charges (charged_in m l z us cs (cells l z))) c.station-part.ensures.means c.charge-line-stranded.ensures.charged in
-    let charges-are : c.charge-line-stranded.new.charges ≡ f.charges =
-    filled c.fill.new.self c.charge-line-stranded.new.charges z.customers (charged_in m l z us cs (cells l z)) (omega (arith, c.requires.places.0)) (omega (arith, c.requires.places.0)) blank charged in
+    let charged = subst (λ m. Adds c.fill.new.self c.charge_line-stranded.new.charges (charged_in m l z us cs (cells l z))) c.station_part.ensures.means c.charge_line-stranded.ensures.charged in
+    let charges-are : c.charge_line-stranded.new.charges ≡ f.charges =
+    filled c.fill.new.self c.charge_line-stranded.new.charges z.customers (charged_in m l z us cs (cells l z)) (omega (arith, c.requires.places.0)) (omega (arith, c.requires.places.0)) blank charged in
     let number = line_found c.requires.line.0 l c.requires.line.1 in
     let is : line_of l.number ≡ Some l = ap line_of (sym number) ∙ c.requires.line.1 in
     let balance = charges_balance m law l z us cs l.number is (costs_allowed z cs c.requires.lawful.costs_lawful) in
     let result : c.remainders.result ≡ record { short = f.short; over = f.over; stranded = f.stranded } =
     c.remainders.ensures
     ∙ left _ _ _ _ _ _
-    (short_is _ _ _ _ _ _ f.short c.all-costs.ensures c.charge-line-stranded.ensures.stranded (ap sum charges-are) balance)
+    (short_is _ _ _ _ _ _ f.short c.all_costs.ensures c.charge_line-stranded.ensures.stranded (ap sum charges-are) balance)
     (over_is _ _ _ _ f.over (ap sum stations-are) (ap sum credits-are) (credits_balance m law l z us cs))
-    (ap pos c.charge-line-stranded.ensures.stranded) in
+    (ap pos c.charge_line-stranded.ensures.stranded) in
     record {
       answers = ap Ok result ∙ sym (ap (λ o. told (answer o f)) none);
       charges = charges-are ∙ sym (ap (λ o. column_after (answer o f) (λ f. f.charges) c.args.charges.now) none);
       stations = stations-are ∙ sym (ap (λ o. column_after (answer o f) (λ f. f.stations) c.args.stations.now) none);
       credits = credits-are ∙ sym (ap (λ o. column_after (answer o f) (λ f. f.credits) c.args.credits.now) none);
-      means = c.charge-line-stranded.ensures.means ∙ c.station-part.ensures.means;
+      means = c.charge_line-stranded.ensures.means ∙ c.station_part.ensures.means;
     }

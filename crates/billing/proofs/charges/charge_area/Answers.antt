@@ -21,8 +21,8 @@ loop-day-init g c =
     let S : ℕ → ℕ = λ x. stranded_in m l z us cs (hour_cells l c.args.area x) in
     (sym (count_none S c.of-days.result.first), omega arith, adds_none c.args.charges.now F c.of-days.result.first, λ k h. omega arith, refl)
 
-pub charge-day-stranded-requires : goal.charge-day-stranded-requires
-charge-day-stranded-requires g c =
+pub charge_day-stranded-requires : goal.charge_day-stranded-requires
+charge_day-stranded-requires g c =
     let l = c.args.basis.line in
     let z = c.args.basis.sizes in
     let few = c.requires.sound.days_few in
@@ -35,13 +35,13 @@ charge-day-stranded-requires g c =
       room = λ k h. omega (arith, c.loop-day.invariant.3 k (omega arith), c.requires.room k (omega arith));
     }
 
-pub overflow-add-stranded : goal.overflow-add-stranded
-overflow-add-stranded g c =
+pub overflow_add-stranded : goal.overflow_add-stranded
+overflow_add-stranded g c =
     let l = c.args.basis.line in
     let z = c.args.basis.sizes in
     let few = c.requires.sound.days_few in
     let end = end_le c.of-days.result c.dated.result (dated l.span) z.days c.of-days.ensures c.dated.ensures in
-    omega (arith, c.loop-day.invariant.1, c.charge-day-stranded.ensures.small)
+    omega (arith, c.loop-day.invariant.1, c.charge_day-stranded.ensures.small)
 
 pub loop-day-preserved : goal.loop-day-preserved
 loop-day-preserved g c =
@@ -54,12 +54,12 @@ loop-day-preserved g c =
     let S : ℕ → ℕ = λ x. stranded_in m l z us cs (hour_cells l c.args.area x) in
     let a = c.of-days.result.first in
     let at = c.loop-day.day in
-    let here = subst (λ m. Adds c.loop-day.charges c.charge-day-stranded.new.charges (λ k. charged_in m l z us cs (hour_cells l c.args.area at) k)) c.loop-day.invariant.4 c.charge-day-stranded.ensures.charged in (
-      omega (arith, c.loop-day.invariant.0, c.charge-day-stranded.ensures.stranded, count_more S a at (omega arith)),
-      omega (arith, c.loop-day.invariant.1, c.charge-day-stranded.ensures.small),
-      adds_more c.args.charges.now c.loop-day.charges c.charge-day-stranded.new.charges F a at (omega arith) c.loop-day.auto.charges c.loop-day.invariant.2 here,
-      λ k h. omega (arith, c.loop-day.invariant.3 k h, c.charge-day-stranded.ensures.rises k (omega arith)),
-      c.charge-day-stranded.ensures.means ∙ c.loop-day.invariant.4,
+    let here = subst (λ m. Adds c.loop-day.charges c.charge_day-stranded.new.charges (λ k. charged_in m l z us cs (hour_cells l c.args.area at) k)) c.loop-day.invariant.4 c.charge_day-stranded.ensures.charged in (
+      omega (arith, c.loop-day.invariant.0, c.charge_day-stranded.ensures.stranded, count_more S a at (omega arith)),
+      omega (arith, c.loop-day.invariant.1, c.charge_day-stranded.ensures.small),
+      adds_more c.args.charges.now c.loop-day.charges c.charge_day-stranded.new.charges F a at (omega arith) c.loop-day.auto.charges c.loop-day.invariant.2 here,
+      λ k h. omega (arith, c.loop-day.invariant.3 k h, c.charge_day-stranded.ensures.rises k (omega arith)),
+      c.charge_day-stranded.ensures.means ∙ c.loop-day.invariant.4,
     )
 
 pub returns : goal.returns

@@ -25,8 +25,8 @@ returns-then-pool-eq0 g c =
       means = refl;
     }
 
-pub share-cell-requires : goal.share-cell-requires
-share-cell-requires g c =
+pub share_cell-requires : goal.share_cell-requires
+share_cell-requires g c =
     let few = c.requires.sound.customers_few in
     let fit = c.requires.sound.costs_fit c.args.cell.area c.args.cell.day c.args.cell.hour c.requires.proper in
     let customers = c.from-customers.result in
@@ -34,6 +34,6 @@ share-cell-requires g c =
     record {
       sound = c.requires.sound;
       cents = (c.pool-pool.ensures, omega (arith, c.pool-pool.ensures));
-      places = (c.requires.places, front c.blank-units-units.result c.blank-units-units.ensures, front c.blank-units-shares.result c.blank-units-shares.ensures);
+      places = (c.requires.places, front c.blank_units-units.result c.blank_units-units.ensures, front c.blank_units-shares.result c.blank_units-shares.ensures);
       room = c.requires.room;
     }

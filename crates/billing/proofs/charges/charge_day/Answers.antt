@@ -24,8 +24,8 @@ returns-then-pool-eq0 g c =
       means = refl;
     }
 
-pub charge-hours-requires : goal.charge-hours-requires
-charge-hours-requires g c = record { sound = c.requires.sound; proper = c.requires.proper; places = c.requires.places; room = c.requires.room }
+pub charge_hours-requires : goal.charge_hours-requires
+charge_hours-requires g c = record { sound = c.requires.sound; proper = c.requires.proper; places = c.requires.places; room = c.requires.room }
 
 pub returns : goal.returns
-returns g c = c.charge-hours.ensures
+returns g c = c.charge_hours.ensures

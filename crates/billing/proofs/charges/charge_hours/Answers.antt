@@ -19,8 +19,8 @@ loop-hour-init g c =
     let S : ℕ → ℕ = λ h. stranded_of m l z us cs (cell c.args.area c.args.day h) in
     (sym (count_none S c.of-hours.result.first), omega arith, adds_none c.args.charges.now F c.of-hours.result.first, λ k h. omega arith, refl)
 
-pub charge-cell-stranded-requires : goal.charge-cell-stranded-requires
-charge-cell-stranded-requires g c =
+pub charge_cell-stranded-requires : goal.charge_cell-stranded-requires
+charge_cell-stranded-requires g c =
     let end = end_le c.of-hours.result c.timed.result (timed c.args.basis.line.span) hours_of_day c.of-hours.ensures c.timed.ensures in
     record {
       sound = c.requires.sound;
@@ -29,10 +29,10 @@ charge-cell-stranded-requires g c =
       room = λ k h. omega (arith, c.loop-hour.invariant.3 k (omega arith), c.requires.room k (omega arith));
     }
 
-pub overflow-add-stranded : goal.overflow-add-stranded
-overflow-add-stranded g c =
+pub overflow_add-stranded : goal.overflow_add-stranded
+overflow_add-stranded g c =
     let end = end_le c.of-hours.result c.timed.result (timed c.args.basis.line.span) hours_of_day c.of-hours.ensures c.timed.ensures in
-    omega (arith, c.loop-hour.invariant.1, c.charge-cell-stranded.ensures.small)
+    omega (arith, c.loop-hour.invariant.1, c.charge_cell-stranded.ensures.small)
 
 pub loop-hour-preserved : goal.loop-hour-preserved
 loop-hour-preserved g c =
@@ -45,12 +45,12 @@ loop-hour-preserved g c =
     let S : ℕ → ℕ = λ h. stranded_of m l z us cs (cell c.args.area c.args.day h) in
     let a = c.of-hours.result.first in
     let x = c.loop-hour.hour in
-    let here = subst (λ m. Adds c.loop-hour.charges c.charge-cell-stranded.new.charges (λ k. share_of m l z us cs k (cell c.args.area c.args.day x))) c.loop-hour.invariant.4 c.charge-cell-stranded.ensures.charged in (
-      omega (arith, c.loop-hour.invariant.0, c.charge-cell-stranded.ensures.stranded, count_more S a x (omega arith)),
-      omega (arith, c.loop-hour.invariant.1, c.charge-cell-stranded.ensures.small),
-      adds_more c.args.charges.now c.loop-hour.charges c.charge-cell-stranded.new.charges F a x (omega arith) c.loop-hour.auto.charges c.loop-hour.invariant.2 here,
-      λ k h. omega (arith, c.loop-hour.invariant.3 k h, c.charge-cell-stranded.ensures.rises k (omega arith)),
-      c.charge-cell-stranded.ensures.means ∙ c.loop-hour.invariant.4,
+    let here = subst (λ m. Adds c.loop-hour.charges c.charge_cell-stranded.new.charges (λ k. share_of m l z us cs k (cell c.args.area c.args.day x))) c.loop-hour.invariant.4 c.charge_cell-stranded.ensures.charged in (
+      omega (arith, c.loop-hour.invariant.0, c.charge_cell-stranded.ensures.stranded, count_more S a x (omega arith)),
+      omega (arith, c.loop-hour.invariant.1, c.charge_cell-stranded.ensures.small),
+      adds_more c.args.charges.now c.loop-hour.charges c.charge_cell-stranded.new.charges F a x (omega arith) c.loop-hour.auto.charges c.loop-hour.invariant.2 here,
+      λ k h. omega (arith, c.loop-hour.invariant.3 k h, c.charge_cell-stranded.ensures.rises k (omega arith)),
+      c.charge_cell-stranded.ensures.means ∙ c.loop-hour.invariant.4,
     )
 
 pub returns : goal.returns

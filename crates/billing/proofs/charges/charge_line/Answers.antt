@@ -21,8 +21,8 @@ loop-area-init g c =
     let S : ℕ → ℕ = λ x. stranded_in m l z us cs (day_cells l z x) in
     (sym (count_none S c.of-areas.result.first), omega arith, adds_none c.args.charges.now F c.of-areas.result.first, λ k h. omega arith, refl)
 
-pub charge-area-stranded-requires : goal.charge-area-stranded-requires
-charge-area-stranded-requires g c =
+pub charge_area-stranded-requires : goal.charge_area-stranded-requires
+charge_area-stranded-requires g c =
     let l = c.args.basis.line in
     let z = c.args.basis.sizes in
     let few = c.requires.sound.subzones_few in
@@ -35,13 +35,13 @@ charge-area-stranded-requires g c =
       room = λ k h. omega (arith, c.loop-area.invariant.3 k (omega arith), c.requires.room k (omega arith));
     }
 
-pub overflow-add-stranded : goal.overflow-add-stranded
-overflow-add-stranded g c =
+pub overflow_add-stranded : goal.overflow_add-stranded
+overflow_add-stranded g c =
     let l = c.args.basis.line in
     let z = c.args.basis.sizes in
     let few = c.requires.sound.subzones_few in
     let end = end_le c.of-areas.result c.zonal.result (zonal l.area) z.subzones c.of-areas.ensures c.zonal.ensures in
-    omega (arith, c.loop-area.invariant.1, c.charge-area-stranded.ensures.small)
+    omega (arith, c.loop-area.invariant.1, c.charge_area-stranded.ensures.small)
 
 pub loop-area-preserved : goal.loop-area-preserved
 loop-area-preserved g c =
@@ -54,12 +54,12 @@ loop-area-preserved g c =
     let S : ℕ → ℕ = λ x. stranded_in m l z us cs (day_cells l z x) in
     let a = c.of-areas.result.first in
     let at = c.loop-area.area in
-    let here = subst (λ m. Adds c.loop-area.charges c.charge-area-stranded.new.charges (λ k. charged_in m l z us cs (day_cells l z at) k)) c.loop-area.invariant.4 c.charge-area-stranded.ensures.charged in (
-      omega (arith, c.loop-area.invariant.0, c.charge-area-stranded.ensures.stranded, count_more S a at (omega arith)),
-      omega (arith, c.loop-area.invariant.1, c.charge-area-stranded.ensures.small),
-      adds_more c.args.charges.now c.loop-area.charges c.charge-area-stranded.new.charges F a at (omega arith) c.loop-area.auto.charges c.loop-area.invariant.2 here,
-      λ k h. omega (arith, c.loop-area.invariant.3 k h, c.charge-area-stranded.ensures.rises k (omega arith)),
-      c.charge-area-stranded.ensures.means ∙ c.loop-area.invariant.4,
+    let here = subst (λ m. Adds c.loop-area.charges c.charge_area-stranded.new.charges (λ k. charged_in m l z us cs (day_cells l z at) k)) c.loop-area.invariant.4 c.charge_area-stranded.ensures.charged in (
+      omega (arith, c.loop-area.invariant.0, c.charge_area-stranded.ensures.stranded, count_more S a at (omega arith)),
+      omega (arith, c.loop-area.invariant.1, c.charge_area-stranded.ensures.small),
+      adds_more c.args.charges.now c.loop-area.charges c.charge_area-stranded.new.charges F a at (omega arith) c.loop-area.auto.charges c.loop-area.invariant.2 here,
+      λ k h. omega (arith, c.loop-area.invariant.3 k h, c.charge_area-stranded.ensures.rises k (omega arith)),
+      c.charge_area-stranded.ensures.means ∙ c.loop-area.invariant.4,
     )
 
 pub returns : goal.returns

@@ -3,8 +3,8 @@ use Rattle.std.proofs.lemmas.List.Edits.{fill_by_more}
 use Rattle.std.proofs.lemmas.List.{get_or-set_other}
 use Rattle.billing.proofs.columns.add_column.Goals as goal
 
-pub overflow-add-onto : goal.overflow-add-onto
-overflow-add-onto c = omega (arith, c.requires.room c.loop-i.i (omega arith), c.loop-i.invariant.1 c.loop-i.i (omega arith))
+pub overflow_add-onto : goal.overflow_add-onto
+overflow_add-onto c = omega (arith, c.requires.room c.loop-i.i (omega arith), c.loop-i.invariant.1 c.loop-i.i (omega arith))
 
 pub loop-i-preserved : goal.loop-i-preserved
 loop-i-preserved c =

@@ -2,8 +2,8 @@ use Rattle.std.proofs.Common.{sum, ap, ◌∙◌, arith, take_all}
 use Rattle.std.proofs.lemmas.List.Sums.{sum_by_more}
 use Rattle.billing.proofs.columns.column_cents.Goals as goal
 
-pub overflow-add-total : goal.overflow-add-total
-overflow-add-total c = omega (arith, c.loop-figure.invariant.1, c.requires.few, c.requires.small c.loop-figure.figure-index c.loop-figure-test.true)
+pub overflow_add-total : goal.overflow_add-total
+overflow_add-total c = omega (arith, c.loop-figure.invariant.1, c.requires.few, c.requires.small c.loop-figure.figure-index c.loop-figure-test.true)
 
 pub loop-figure-preserved : goal.loop-figure-preserved
 loop-figure-preserved c =

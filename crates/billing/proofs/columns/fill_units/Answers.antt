@@ -11,8 +11,8 @@ loop-row-init c k h =
     let e = c.fill.ensures.after (λ y e. e) in
     ap (λ xs. get_or xs k 0) e ∙ get_or-replicate _ k 0 0 (omega arith)
 
-pub add-row-requires : goal.add-row-requires
-add-row-requires c =
+pub add_row-requires : goal.add_row-requires
+add_row-requires c =
     let i = c.loop-row.row-index in
     let units = c.args.units.now in
     let who = (get_or units i no_units).customer in
@@ -22,7 +22,7 @@ add-row-requires c =
 pub loop-row-preserved : goal.loop-row-preserved
 loop-row-preserved c k h =
     let more = units_more c.args.uses c.args.units.now c.args.cell c.loop-row.row-index k c.loop-row-test.true in
-    omega (arith, c.add-row.ensures k (omega arith), c.loop-row.invariant k (omega arith))
+    omega (arith, c.add_row.ensures k (omega arith), c.loop-row.invariant k (omega arith))
 
 pub returns : goal.returns
 returns c =

@@ -24,8 +24,8 @@ loop-area-init g c =
     let cs = c.args.basis.costs.now in
     (λ y lo hi. absurd (omega arith), credited_none m l z us cs (whole_days z) c.of-areas.result.first _ c.args.stations.now c.args.credits.now, refl)
 
-pub station-days-requires : goal.station-days-requires
-station-days-requires g c =
+pub station_days-requires : goal.station_days-requires
+station_days-requires g c =
     let l = c.args.basis.line in
     let z = c.args.basis.sizes in
     let few = c.requires.sound.subzones_few in
@@ -43,8 +43,8 @@ station-days-requires g c =
       );
     }
 
-pub returns-in-err-station-days : goal.returns-in-err-station-days
-returns-in-err-station-days g c =
+pub returns-in_err-station_days : goal.returns-in_err-station_days
+returns-in_err-station_days g c =
     let m = g.R.SharingRule.meaning c.args.rule.now in
     let l = c.args.basis.line in
     let z = c.args.basis.sizes in
@@ -55,13 +55,13 @@ returns-in-err-station-days g c =
     let begin = first_le c.of-areas.result c.zonal.result (zonal l.area) z.subzones c.of-areas.ensures c.zonal.ensures in
     let t = too_large_at m l z us cs in
     let at = c.loop-area.area in
-    let p = err_from_is_err_and c.from-residual.result c.from-residual.ensures.1 in
-    let e = c.in-err-station-days.field-0.0 in
-    let some = err_tells (first_of (map t (whole_days z at))) e tt c.in-err-station-days.ensures.answers in
+    let p = err_from_is_err_and c.from_residual.result c.from_residual.ensures.1 in
+    let e = c.in_err-station_days.field-0.0 in
+    let some = err_tells (first_of (map t (whole_days z at))) e tt c.in_err-station_days.ensures.answers in
     record {
       answers = p.1 ∙ ap Err p.2 ∙ sym (ap (λ o. answer o tt) (ap (λ ds. first_of (map t ds)) (ap (flat_map (whole_days z)) (sym (axis_is c.of-areas.result c.zonal.result (zonal l.area) z.subzones c.of-areas.ensures c.zonal.ensures))) ∙ joined_first t (whole_days z) c.of-areas.result.first (c.of-areas.result.end - c.of-areas.result.first) at e (omega arith) (omega arith) c.loop-area.invariant.0 some));
-      credited = IfOk-from_err c.from-residual.result _ (ap is_err p.1);
-      means = c.station-days.ensures.means ∙ c.loop-area.invariant.2;
+      credited = IfOk-from_err c.from_residual.result _ (ap is_err p.1);
+      means = c.station_days.ensures.means ∙ c.loop-area.invariant.2;
     }
 
 pub loop-area-preserved : goal.loop-area-preserved
@@ -73,11 +73,11 @@ loop-area-preserved g c =
     let cs = c.args.basis.costs.now in
     let t = too_large_at m l z us cs in
     let at = c.loop-area.area in
-    let none = (ok_tells (first_of (map t (whole_days z at))) c.in-ok-station-days.field-0 tt c.in-ok-station-days.ensures.answers).0 in
-    let here = subst (λ m. Credited m l z us cs (whole_days z at) (2 ^ 36) c.loop-area.stations c.station-days.new.stations c.loop-area.credits c.station-days.new.credits) c.loop-area.invariant.2 c.in-ok-station-days.ensures.credited in (
+    let none = (ok_tells (first_of (map t (whole_days z at))) c.in_ok-station_days.field-0 tt c.in_ok-station_days.ensures.answers).0 in
+    let here = subst (λ m. Credited m l z us cs (whole_days z at) (2 ^ 36) c.loop-area.stations c.station_days.new.stations c.loop-area.credits c.station_days.new.credits) c.loop-area.invariant.2 c.in_ok-station_days.ensures.credited in (
       before_more (λ y. first_of (map t (whole_days z y)) ≡ None) c.of-areas.result.first at c.loop-area.invariant.0 none,
-      credited_more m l z us cs (whole_days z) c.of-areas.result.first at (2 ^ 36) c.args.stations.now c.loop-area.stations c.station-days.new.stations c.args.credits.now c.loop-area.credits c.station-days.new.credits (omega arith) c.loop-area.auto.stations c.loop-area.auto.credits c.loop-area.invariant.1 here,
-      c.station-days.ensures.means ∙ c.loop-area.invariant.2,
+      credited_more m l z us cs (whole_days z) c.of-areas.result.first at (2 ^ 36) c.args.stations.now c.loop-area.stations c.station_days.new.stations c.args.credits.now c.loop-area.credits c.station_days.new.credits (omega arith) c.loop-area.auto.stations c.loop-area.auto.credits c.loop-area.invariant.1 here,
+      c.station_days.ensures.means ∙ c.loop-area.invariant.2,
     )
 
 pub returns : goal.returns

@@ -37,8 +37,8 @@ returns-then-pool-eq0 g c =
       means = refl;
     }
 
-pub credit-day-requires : goal.credit-day-requires
-credit-day-requires g c =
+pub credit_day-requires : goal.credit_day-requires
+credit_day-requires g c =
     let few = c.requires.sound.customers_few in
     let fit = c.requires.sound.costs_fit c.args.area c.args.day 0 c.requires.proper in
     let customers = c.from-customers.result in
@@ -48,9 +48,9 @@ credit-day-requires g c =
       has = c.requires.has;
       cents = (c.pool-pool.ensures, omega (arith, c.pool-pool.ensures));
       places = c.requires.places;
-      work-places = (front c.blank-units-counted.result c.blank-units-counted.ensures, front c.blank-units-work.result c.blank-units-work.ensures);
+      work_places = (front c.blank_units-counted.result c.blank_units-counted.ensures, front c.blank_units-work.result c.blank_units-work.ensures);
       room = c.requires.room;
     }
 
 pub returns : goal.returns
-returns g c = c.credit-day.ensures
+returns g c = c.credit_day.ensures

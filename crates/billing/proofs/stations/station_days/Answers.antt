@@ -21,8 +21,8 @@ loop-day-init g c =
     let cs = c.args.basis.costs.now in
     (λ y lo hi. absurd (omega arith), credited_none m l z us cs (λ x. cell c.args.area x 0 ∷ []) (1) _ c.args.stations.now c.args.credits.now, refl)
 
-pub station-day-requires : goal.station-day-requires
-station-day-requires g c =
+pub station_day-requires : goal.station_day-requires
+station_day-requires g c =
     let l = c.args.basis.line in
     let z = c.args.basis.sizes in
     let few = c.requires.sound.days_few in
@@ -38,8 +38,8 @@ station-day-requires g c =
       );
     }
 
-pub returns-in-err-station-day : goal.returns-in-err-station-day
-returns-in-err-station-day g c =
+pub returns-in_err-station_day : goal.returns-in_err-station_day
+returns-in_err-station_day g c =
     let m = g.R.SharingRule.meaning c.args.rule.now in
     let l = c.args.basis.line in
     let z = c.args.basis.sizes in
@@ -48,13 +48,13 @@ returns-in-err-station-day g c =
     let few = c.requires.sound.days_few in
     let t = too_large_at m l z us cs in
     let at = c.loop-day.day in
-    let p = err_from_is_err_and c.from-residual.result c.from-residual.ensures.1 in
-    let e = c.in-err-station-day.field-0.0 in
-    let some = err_tells (first_of (map t (cell c.args.area at 0 ∷ []))) e tt c.in-err-station-day.ensures.answers in
+    let p = err_from_is_err_and c.from_residual.result c.from_residual.ensures.1 in
+    let e = c.in_err-station_day.field-0.0 in
+    let some = err_tells (first_of (map t (cell c.args.area at 0 ∷ []))) e tt c.in_err-station_day.ensures.answers in
     record {
       answers = p.1 ∙ ap Err p.2 ∙ sym (ap (λ o. answer o tt) (ap (λ ds. first_of (map t ds)) (map_as_joined (λ d. cell c.args.area d 0) (range_with_len 1 z.days)) ∙ joined_first t (λ x. cell c.args.area x 0 ∷ []) (1) z.days at e (omega arith) (omega arith) c.loop-day.invariant.0 some));
-      credited = IfOk-from_err c.from-residual.result _ (ap is_err p.1);
-      means = c.station-day.ensures.means ∙ c.loop-day.invariant.2;
+      credited = IfOk-from_err c.from_residual.result _ (ap is_err p.1);
+      means = c.station_day.ensures.means ∙ c.loop-day.invariant.2;
     }
 
 pub loop-day-preserved : goal.loop-day-preserved
@@ -66,11 +66,11 @@ loop-day-preserved g c =
     let cs = c.args.basis.costs.now in
     let t = too_large_at m l z us cs in
     let at = c.loop-day.day in
-    let none = (ok_tells (first_of (map t (cell c.args.area at 0 ∷ []))) c.in-ok-station-day.field-0 tt c.in-ok-station-day.ensures.answers).0 in
-    let here = subst (λ m. Credited m l z us cs (cell c.args.area at 0 ∷ []) (2 ^ 31) c.loop-day.stations c.station-day.new.stations c.loop-day.credits c.station-day.new.credits) c.loop-day.invariant.2 c.in-ok-station-day.ensures.credited in (
+    let none = (ok_tells (first_of (map t (cell c.args.area at 0 ∷ []))) c.in_ok-station_day.field-0 tt c.in_ok-station_day.ensures.answers).0 in
+    let here = subst (λ m. Credited m l z us cs (cell c.args.area at 0 ∷ []) (2 ^ 31) c.loop-day.stations c.station_day.new.stations c.loop-day.credits c.station_day.new.credits) c.loop-day.invariant.2 c.in_ok-station_day.ensures.credited in (
       before_more (λ y. first_of (map t (cell c.args.area y 0 ∷ [])) ≡ None) (1) at c.loop-day.invariant.0 none,
-      credited_more m l z us cs (λ x. cell c.args.area x 0 ∷ []) (1) at (2 ^ 31) c.args.stations.now c.loop-day.stations c.station-day.new.stations c.args.credits.now c.loop-day.credits c.station-day.new.credits (omega arith) c.loop-day.auto.stations c.loop-day.auto.credits c.loop-day.invariant.1 here,
-      c.station-day.ensures.means ∙ c.loop-day.invariant.2,
+      credited_more m l z us cs (λ x. cell c.args.area x 0 ∷ []) (1) at (2 ^ 31) c.args.stations.now c.loop-day.stations c.station_day.new.stations c.args.credits.now c.loop-day.credits c.station_day.new.credits (omega arith) c.loop-day.auto.stations c.loop-day.auto.credits c.loop-day.invariant.1 here,
+      c.station_day.ensures.means ∙ c.loop-day.invariant.2,
     )
 
 pub returns : goal.returns
