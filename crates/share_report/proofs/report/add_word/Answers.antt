@@ -20,9 +20,9 @@ shown_all word i e = elim (cases_lt (length word) 40) [
 
 pub loop-i-preserved : goal.loop-i-preserved
 loop-i-preserved c =
-    let pushed = c.in-ok-push.ensures in
-    byte_more (string_bytes c.args.text.now) (string_bytes c.loop-i.text) (string_bytes c.push.new.self) c.args.word.now (encode c.shown-byte.result) c.loop-i.i c.shown-byte.result
-    (omega arith) c.loop-i.invariant pushed.bytes (pushed.ascii c.shown-byte.ensures.ascii) c.shown-byte.ensures.value
+    let pushed = c.in_ok-push.ensures in
+    byte_more (string_bytes c.args.text.now) (string_bytes c.loop-i.text) (string_bytes c.push.new.self) c.args.word.now (encode c.shown_byte.result) c.loop-i.i c.shown_byte.result
+    (omega arith) c.loop-i.invariant pushed.bytes (pushed.ascii c.shown_byte.ensures.ascii) c.shown_byte.ensures.value
 
 pub returns : goal.returns
 returns c = c.loop-i.invariant ∙ ap (λ bs. string_bytes c.args.text.now ++ bs) (shown_all c.args.word.now c.loop-i.i (omega arith))

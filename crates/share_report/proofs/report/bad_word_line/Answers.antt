@@ -8,6 +8,6 @@ pub returns : goal.returns
 returns c =
     let bad = c.args.bad.now in
     joined_line (codes "share: word ") (decimal bad.place) (codes ", \"") (shown_word bad.word.now) (codes "\", " ++ (fault_words bad.fault ++ codes "\n"))
-    (string_bytes c.in-ok-line.line) (string_bytes c.add-word.new.text) (string_bytes c.push-str.new.self)
-    c.in-ok-line.ensures.ok c.in-ok-add-word.ensures
-    (c.in-ok-push-str.ensures.bytes ∙ ap (λ b. string_bytes c.add-word.new.text ++ b) (c.as-str.ensures.value ∙ c.in-ok-end.ensures.ok))
+    (string_bytes c.in_ok-line.line) (string_bytes c.add_word.new.text) (string_bytes c.push_str.new.self)
+    c.in_ok-line.ensures.ok c.in_ok-add_word.ensures
+    (c.in_ok-push_str.ensures.bytes ∙ ap (λ b. string_bytes c.add_word.new.text ++ b) (c.as_str.ensures.value ∙ c.in_ok-end.ensures.ok))

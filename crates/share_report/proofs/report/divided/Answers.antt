@@ -13,7 +13,7 @@ pub returns-in-Err : goal.returns-in-Err
 returns-in-Err c =
     let units = c.args.units.now in
     let some = err_tells (share_refusal c.args.pool units (length units)) c.in-Err.refusal (down c.args.pool units, division down c.args.pool units)
-    (ap shown_shares (sym c.in-Err.is) ∙ c.in-ok-shares.ensures) in
+    (ap shown_shares (sym c.in-Err.is) ∙ c.in_ok-shares.ensures) in
     IfOk-weaker c.refused.result _ _ (λ a h. h ∙ sym (ap (λ o. divided_by o c.args.pool units) some)) c.refused.ensures
 
 pub table-requires : goal.table-requires
@@ -21,6 +21,6 @@ table-requires c =
     let units = c.args.units.now in
     let d = c.in-Ok.shares in
     let r = c.in-Ok-2.shares in (
-      d.column.ok.0 ∙ shared_length down down_lawful c.args.pool units (vec_items d.column) d.division (ap shown_shares (sym c.in-Ok.is) ∙ c.in-ok-shares.ensures),
-      r.column.ok.0 ∙ shared_length running running_lawful c.args.pool units (vec_items r.column) r.division (ap shown_shares (sym c.in-Ok-2.is) ∙ c.in-ok-shares-2.ensures),
+      d.column.ok.0 ∙ shared_length down down_lawful c.args.pool units (vec_items d.column) d.division (ap shown_shares (sym c.in-Ok.is) ∙ c.in_ok-shares.ensures),
+      r.column.ok.0 ∙ shared_length running running_lawful c.args.pool units (vec_items r.column) r.division (ap shown_shares (sym c.in-Ok-2.is) ∙ c.in_ok-shares-2.ensures),
     )

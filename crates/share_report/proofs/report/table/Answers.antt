@@ -12,13 +12,13 @@ returns c =
     let rows = flat_map (row_of c.args.units.now (vec_items down.column) (vec_items running.column)) (range_with_len 0 (length c.args.units.now)) in
     let fd : SFits w64 down.division.left = search rules in
     let fr : SFits w64 running.division.left = search rules in
-    let left : string_bytes c.in-ok-left.left ≡ left_text down.division.left running.division.left =
-    simp to_z-of_z at c.in-ok-left.ensures in
-    let added : string_bytes c.add-rows.new.text ≡ string_bytes c.in-ok-text.text ++ rows =
-    simp (c.as-slice.ensures.value, c.as-slice-2.ensures.value) at c.in-ok-add-rows.ensures in
+    let left : string_bytes c.in_ok-left.left ≡ left_text down.division.left running.division.left =
+    simp to_z-of_z at c.in_ok-left.ensures in
+    let added : string_bytes c.add_rows.new.text ≡ string_bytes c.in_ok-text.text ++ rows =
+    simp (c.as_slice.ensures.value, c.as_slice-2.ensures.value) at c.in_ok-add_rows.ensures in
     tabled (head_of c.args.pool) rows (sum_text down.division.units down.division.shares running.division.shares) (left_text down.division.left running.division.left)
-    (string_bytes c.in-ok-text.text) (string_bytes c.add-rows.new.text) (string_bytes c.push-str.new.self) (string_bytes c.push-str-2.new.self) (string_bytes c.in-ok-sums.sums) (string_bytes c.in-ok-left.left)
-    c.in-ok-text.ensures.ok added
-    (c.in-ok-push-str.ensures.bytes ∙ ap (λ b. string_bytes c.add-rows.new.text ++ b) c.as-str.ensures.value)
-    (c.in-ok-push-str-2.ensures.bytes ∙ ap (λ b. string_bytes c.push-str.new.self ++ b) c.as-str-2.ensures.value)
-    c.in-ok-sums.ensures left
+    (string_bytes c.in_ok-text.text) (string_bytes c.add_rows.new.text) (string_bytes c.push_str.new.self) (string_bytes c.push_str-2.new.self) (string_bytes c.in_ok-sums.sums) (string_bytes c.in_ok-left.left)
+    c.in_ok-text.ensures.ok added
+    (c.in_ok-push_str.ensures.bytes ∙ ap (λ b. string_bytes c.add_rows.new.text ++ b) c.as_str.ensures.value)
+    (c.in_ok-push_str-2.ensures.bytes ∙ ap (λ b. string_bytes c.push_str.new.self ++ b) c.as_str-2.ensures.value)
+    c.in_ok-sums.ensures left

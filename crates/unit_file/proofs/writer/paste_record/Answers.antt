@@ -5,7 +5,7 @@ use Rattle.unit_file.specs.Writing.{pasted}
 use Rattle.unit_file.proofs.writer.paste_record.Goals as goal
 
 pub returns-in-Unit : goal.returns-in-Unit
-returns-in-Unit c = c.paste-in-Unit.ensures ∙ ap (λ (bs : List ℕ). pasted c.args.out.now c.args.place bs) (c.unit-bytes.ensures ∙ ap (λ (r : Record). bytes_of (item_of r)) (sym c.in-Unit.is))
+returns-in-Unit c = c.paste-in-Unit.ensures ∙ ap (λ (bs : List ℕ). pasted c.args.out.now c.args.place bs) (c.unit_bytes.ensures ∙ ap (λ (r : Record). bytes_of (item_of r)) (sym c.in-Unit.is))
 
 pub returns-in-Cost : goal.returns-in-Cost
-returns-in-Cost c = c.paste-in-Cost.ensures ∙ ap (λ (bs : List ℕ). pasted c.args.out.now c.args.place bs) (c.cost-bytes.ensures ∙ ap (λ (r : Record). bytes_of (item_of r)) (sym c.in-Cost.is))
+returns-in-Cost c = c.paste-in-Cost.ensures ∙ ap (λ (bs : List ℕ). pasted c.args.out.now c.args.place bs) (c.cost_bytes.ensures ∙ ap (λ (r : Record). bytes_of (item_of r)) (sym c.in-Cost.is))
