@@ -13,17 +13,17 @@ returns-in-Err c =
     done_by_same _ _ _ _ c.report.result (c.report.ensures ∙ ap (λ n. reported c.loop-found.rows (Some c.in-Err.refusal) n File) c.place-place.ensures)
     (at_fault _ _ _ _ _ _ _ c.loop-found.invariant.1 c.in-Err.refusal (answered _ _ _ _ c.in-Err.ensures.answers c.loop-found.invariant.0))
 
-pub returns-in-default : goal.returns-in-default
-returns-in-default c =
-    done_by_same _ _ _ _ c.report-in-default.result c.report-in-default.ensures
-    (at_end_is _ _ _ _ _ _ _ c.loop-found.invariant.1 (found_none c.args.bytes.now c.loop-found.reader.bytes.now c.loop-found.reader.place c.in-Ok.found c.in-Ok.ensures.answers c.loop-found.invariant.0 c.in-default.is))
+pub returns-in_default : goal.returns-in_default
+returns-in_default c =
+    done_by_same _ _ _ _ c.report-in_default.result c.report-in_default.ensures
+    (at_end_is _ _ _ _ _ _ _ c.loop-found.invariant.1 (found_none c.args.bytes.now c.loop-found.reader.bytes.now c.loop-found.reader.place c.in-Ok.found c.in-Ok.ensures.answers c.loop-found.invariant.0 c.in_default.is))
 
-pub overflow-add-rows : goal.overflow-add-rows
-overflow-add-rows c =
+pub overflow_add-rows : goal.overflow_add-rows
+overflow_add-rows c =
     let s = c.loop-found.invariant.1 in
     let f = s.few in
     let i = s.inside in
-    omega (arith, few_rows _ _ _ _ c.in-Ok-load-record.ensures)
+    omega (arith, few_rows _ _ _ _ c.in-Ok-load_record.ensures)
 
 pub loop-found-smaller : goal.loop-found-smaller
 loop-found-smaller c =
@@ -32,7 +32,7 @@ loop-found-smaller c =
     let p = a.1 in
     let q = a.2 in
     let e = stands _ _ _ _ c.in-Ok.ensures.place c.loop-found.invariant.0 in
-    let falls : length c.args.bytes.now - c.next-in-order.new.self.place < length c.args.bytes.now - c.loop-found.reader.place = omega arith in
+    let falls : length c.args.bytes.now - c.next_in_order.new.self.place < length c.args.bytes.now - c.loop-found.reader.place = omega arith in
     falls
 
 pub loop-found-preserved : goal.loop-found-preserved
@@ -40,16 +40,16 @@ loop-found-preserved c =
     let read = found_record c.args.bytes.now c.loop-found.reader.bytes.now c.loop-found.reader.place c.in-Ok.found c.in-Some.record c.in-Ok.ensures.answers c.loop-found.invariant.0 c.in-Some.is in
     let e = stands _ _ _ _ c.in-Ok.ensures.place c.loop-found.invariant.0 in
     let s0 = opened (open_book c.args.self.now) c.args.units.now c.args.costs.now c.args.marks.now in
-    let s1 = opened (open_book c.load-record.new.self) c.load-record.new.units c.load-record.new.costs c.args.marks.now in
+    let s1 = opened (open_book c.load_record.new.self) c.load_record.new.units c.load_record.new.costs c.args.marks.now in
     let p = pass_of c.args.pass.now in
     let bs = c.args.bytes.now in (
       c.in-Ok.ensures.bytes ∙ c.loop-found.invariant.0,
-      subst (λ (k : ℕ). Sofar bs p s0 (load_from (length bs) bs p s0 c.args.reader.place 0) s1 k (c.loop-found.rows + c.in-Ok-load-record.posted)) (sym e)
-          (went_on bs p s0 _ _ c.loop-found.reader.place c.loop-found.rows c.loop-found.invariant.1 (item_of c.in-Some.record) c.in-Ok-load-record.posted s1 read c.in-Ok-load-record.ensures),
+      subst (λ (k : ℕ). Sofar bs p s0 (load_from (length bs) bs p s0 c.args.reader.place 0) s1 k (c.loop-found.rows + c.in-Ok-load_record.posted)) (sym e)
+          (went_on bs p s0 _ _ c.loop-found.reader.place c.loop-found.rows c.loop-found.invariant.1 (item_of c.in-Some.record) c.in-Ok-load_record.posted s1 read c.in-Ok-load_record.ensures),
     )
 
-pub returns-in-Err-load-record : goal.returns-in-Err-load-record
-returns-in-Err-load-record c =
+pub returns-in-Err-load_record : goal.returns-in-Err-load_record
+returns-in-Err-load_record c =
     let read = found_record c.args.bytes.now c.loop-found.reader.bytes.now c.loop-found.reader.place c.in-Ok.found c.in-Some.record c.in-Ok.ensures.answers c.loop-found.invariant.0 c.in-Some.is in
-    done_by_same _ _ _ _ c.report-in-Err-load-record.result (c.report-in-Err-load-record.ensures ∙ ap (λ n. reported c.loop-found.rows (Some c.in-Err-load-record.refusal) n Book) c.place-place.ensures)
-    (at_refusal _ _ _ _ _ _ _ c.loop-found.invariant.1 (item_of c.in-Some.record) c.in-Err-load-record.refusal _ read c.in-Err-load-record.ensures)
+    done_by_same _ _ _ _ c.report-in-Err-load_record.result (c.report-in-Err-load_record.ensures ∙ ap (λ n. reported c.loop-found.rows (Some c.in-Err-load_record.refusal) n Book) c.place-place.ensures)
+    (at_refusal _ _ _ _ _ _ _ c.loop-found.invariant.1 (item_of c.in-Some.record) c.in-Err-load_record.refusal _ read c.in-Err-load_record.ensures)

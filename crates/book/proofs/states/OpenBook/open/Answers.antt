@@ -9,6 +9,6 @@ use Rattle.book.proofs.states.OpenBook.open.Goals as goal
 
 pub returns : goal.returns
 returns c =
-    let t = ok_tells (sizes_refusal c.args.sizes) (sizes_of c.in-ok-sizes.sizes) c.args.sizes c.in-ok-sizes.ensures in
+    let t = ok_tells (sizes_refusal c.args.sizes) (sizes_of c.in_ok-sizes.sizes) c.args.sizes c.in_ok-sizes.ensures in
     let fit = none_tells (unfit c.args.sizes) SizeOutOfRange t.0 in
     record { answers = search rules; clears = search rules; life = λ units costs. laws _ refl refl }
