@@ -9,8 +9,8 @@ loop-count-init c = (omega arith, omega arith, decimal_nonempty c.args.number (o
 pub loop-count-preserved : goal.loop-count-preserved
 loop-count-preserved c = (omega arith, omega arith, omega (arith, length_decimal_gt c.loop-count.count c.args.number (omega arith) (omega arith)))
 
-pub returns-else-number-power-of-ten : goal.returns-else-number-power-of-ten
-returns-else-number-power-of-ten c = record {
+pub returns-else-number-power_of_ten : goal.returns-else-number-power_of_ten
+returns-else-number-power_of_ten c = record {
   count = omega (arith, length-decimal-le c.loop-count.count c.args.number (omega arith) (omega arith) (omega arith));
   small = omega arith;
 }

@@ -11,11 +11,11 @@ pub returns : goal.returns
 returns c =
     let out : List ℕ = c.args.out.now in
     let place : ℕ = c.args.place in
-    let magnitude : ℕ = c.unsigned-abs-magnitude.result in
+    let magnitude : ℕ = c.unsigned_abs-magnitude.result in
     let same = to_z-of_z w64 c.args.number c.ranges.number in
-    let text : signed_decimal c.args.number ≡ 45 ∷ decimal magnitude = ap signed_decimal (sym same) ∙ signed_below_zero _ magnitude c.if-number-ge0.false c.unsigned-abs-magnitude.ensures.value in
-    let room = ltb-false (length out) (place + (1 + c.digit-count-count.result)) (sym c.if-is-too-short.ensures) in
-    let written : c.paste-number.new.out ≡ pasted out place (45 ∷ decimal magnitude) =
-    c.paste-number.ensures ∙ ap (λ (o : List ℕ). pasted o (place + 1) (decimal magnitude)) c.paste.ensures ∙ pasted_twice out (45 ∷ []) (decimal magnitude) place (omega arith) in
-    let d = put_done out c.paste-number.new.out (45 ∷ decimal magnitude) place (place + 1 + c.digit-count-count.result) (omega arith) (omega arith) written in
+    let text : signed_decimal c.args.number ≡ 45 ∷ decimal magnitude = ap signed_decimal (sym same) ∙ signed_below_zero _ magnitude c.if-number-ge0.false c.unsigned_abs-magnitude.ensures.value in
+    let room = ltb-false (length out) (place + (1 + c.digit_count-count.result)) (sym c.if-is_too_short.ensures) in
+    let written : c.paste_number.new.out ≡ pasted out place (45 ∷ decimal magnitude) =
+    c.paste_number.ensures ∙ ap (λ (o : List ℕ). pasted o (place + 1) (decimal magnitude)) c.paste.ensures ∙ pasted_twice out (45 ∷ []) (decimal magnitude) place (omega arith) in
+    let d = put_done out c.paste_number.new.out (45 ∷ decimal magnitude) place (place + 1 + c.digit_count-count.result) (omega arith) (omega arith) written in
     record { answers = rw text d.0; out = rw text d.1 }

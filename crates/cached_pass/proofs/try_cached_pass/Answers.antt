@@ -13,7 +13,7 @@ returns c = λ void.
     let p = pass_of c.args.contractor.now in
     let one = correct_idle b c.args.units.now cs ms p void 0 1 _ (c.correct-first.ensures cs) in
     let two = correct_idle b c.correct-first.new.units cs ms p void 1 1 _ (c.correct-second.ensures cs) in
-    let three = post_idle b c.correct-second.new.units cs ms p void c.load-row.result _ (c.post-third.ensures cs) in
+    let three = post_idle b c.correct-second.new.units cs ms p void c.load_row.result _ (c.post-third.ensures cs) in
     let still : valid (open_book c.post-third.new.self) ms p ≡ false = ap (λ (s : State). valid s.book ms p) three ∙ void in
-    let four = cost_idle (open_book c.post-third.new.self) c.post-third.new.units cs ms p still _ _ (c.add-cost-fourth.ensures c.post-third.new.units) in
+    let four = cost_idle (open_book c.post-third.new.self) c.post-third.new.units cs ms p still _ _ (c.add_cost-fourth.ensures c.post-third.new.units) in
     four ∙ three ∙ two ∙ one

@@ -9,6 +9,6 @@ loop-customer-init c = sym (append-nil (string_bytes c.args.text.now))
 
 pub loop-customer-preserved : goal.loop-customer-preserved
 loop-customer-preserved c =
-    rows_more (row_of c.args.charges.now c.args.stations.now c.args.credits.now) (string_bytes c.args.text.now) (string_bytes c.loop-customer.text) (string_bytes c.in-ok-line.line) (string_bytes c.push-str.new.self) c.loop-customer.customer
-    c.loop-customer.invariant c.in-ok-line.ensures
-    (c.in-ok-push-str.ensures.bytes ∙ ap (λ b. string_bytes c.loop-customer.text ++ b) c.as-str.ensures.value)
+    rows_more (row_of c.args.charges.now c.args.stations.now c.args.credits.now) (string_bytes c.args.text.now) (string_bytes c.loop-customer.text) (string_bytes c.in_ok-line.line) (string_bytes c.push_str.new.self) c.loop-customer.customer
+    c.loop-customer.invariant c.in_ok-line.ensures
+    (c.in_ok-push_str.ensures.bytes ∙ ap (λ b. string_bytes c.loop-customer.text ++ b) c.as_str.ensures.value)

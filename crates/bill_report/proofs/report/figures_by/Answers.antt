@@ -13,29 +13,29 @@ returns-in-Ok g c =
     let n = c.args.line in
     let s = c.args.settled.now in
     let b = frozen_book s.book in
-    let us = c.as-slice.result.now in
-    let cs = c.as-slice-2.result.now in
+    let us = c.as_slice.result.now in
+    let cs = c.as_slice-2.result.now in
     let last = c.bill-outcome.new in
-    let x = c.as-mut-slice.result.now in
-    let y = c.as-mut-slice-2.result.now in
-    let w = c.as-mut-slice-3.result.now in
+    let x = c.as_mut_slice.result.now in
+    let y = c.as_mut_slice-2.result.now in
+    let w = c.as_mut_slice-3.result.now in
     let p : Lengths = record { charges = length x; stations = length y; credits = length w } in
     let law = c.in-Ok.ensures.lawful in
-    let ch = c.in-ok-charges.ensures.len in
-    let st = c.in-ok-stations.ensures.len in
-    let cr = c.in-ok-credits.ensures.len in
-    let lx = c.as-mut-slice.ensures.len in
-    let ly = c.as-mut-slice-2.ensures.len in
-    let lw = c.as-mut-slice-3.ensures.len in
+    let ch = c.in_ok-charges.ensures.len in
+    let st = c.in_ok-stations.ensures.len in
+    let cr = c.in_ok-credits.ensures.len in
+    let lx = c.as_mut_slice.ensures.len in
+    let ly = c.as_mut_slice-2.ensures.len in
+    let lw = c.as_mut_slice-3.ensures.len in
     record {
       figures =
           figured_same _ _ _ last.charges last.stations last.credits c.in-Ok.remainders
-          (with_items_is c.in-ok-charges.charges last.charges (c.bill-outcome.auto.charges ∙ lx))
-          (with_items_is c.in-ok-stations.stations last.stations (c.bill-outcome.auto.stations ∙ ly))
-          (with_items_is c.in-ok-credits.credits last.credits (c.bill-outcome.auto.credits ∙ lw))
+          (with_items_is c.in_ok-charges.charges last.charges (c.bill-outcome.auto.charges ∙ lx))
+          (with_items_is c.in_ok-stations.stations last.stations (c.bill-outcome.auto.stations ∙ ly))
+          (with_items_is c.in_ok-credits.credits last.credits (c.bill-outcome.auto.credits ∙ lw))
           ∙ billed_tells (book_bill m n b us cs p) _ (ap (λ (o : Outcome). o.answer) (c.in-Ok.ensures.answers law []))
-          ∙ ap (λ k. book_bill m n b k cs p) c.as-slice.ensures.value
-          ∙ ap (λ k. book_bill m n b (vec_items s.units) k p) c.as-slice-2.ensures.value
+          ∙ ap (λ k. book_bill m n b k cs p) c.as_slice.ensures.value
+          ∙ ap (λ k. book_bill m n b (vec_items s.units) k p) c.as_slice-2.ensures.value
           ∙ ap (book_bill m n b (vec_items s.units) (vec_items s.costs)) (lengths (length x) (length y) (length w) s.sizes.customers (omega arith) (omega arith) (omega arith));
       places = (omega arith, omega arith, omega arith);
     }
@@ -46,23 +46,23 @@ returns-in-Err g c =
     let n = c.args.line in
     let s = c.args.settled.now in
     let b = frozen_book s.book in
-    let us = c.as-slice.result.now in
-    let cs = c.as-slice-2.result.now in
-    let x = c.as-mut-slice.result.now in
-    let y = c.as-mut-slice-2.result.now in
-    let w = c.as-mut-slice-3.result.now in
+    let us = c.as_slice.result.now in
+    let cs = c.as_slice-2.result.now in
+    let x = c.as_mut_slice.result.now in
+    let y = c.as_mut_slice-2.result.now in
+    let w = c.as_mut_slice-3.result.now in
     let p : Lengths = record { charges = length x; stations = length y; credits = length w } in
-    let ch = c.in-ok-charges.ensures.len in
-    let st = c.in-ok-stations.ensures.len in
-    let cr = c.in-ok-credits.ensures.len in
-    let lx = c.as-mut-slice.ensures.len in
-    let ly = c.as-mut-slice-2.ensures.len in
-    let lw = c.as-mut-slice-3.ensures.len in
+    let ch = c.in_ok-charges.ensures.len in
+    let st = c.in_ok-stations.ensures.len in
+    let cr = c.in_ok-credits.ensures.len in
+    let lx = c.as_mut_slice.ensures.len in
+    let ly = c.as_mut_slice-2.ensures.len in
+    let lw = c.as_mut_slice-3.ensures.len in
     record {
       figures =
           refused_tells (book_bill m n b us cs p) c.in-Err.refusal (ap (λ (o : Outcome). o.answer) (c.in-Err.ensures.answers c.in-Err.ensures.lawful []))
-          ∙ ap (λ k. book_bill m n b k cs p) c.as-slice.ensures.value
-          ∙ ap (λ k. book_bill m n b (vec_items s.units) k p) c.as-slice-2.ensures.value
+          ∙ ap (λ k. book_bill m n b k cs p) c.as_slice.ensures.value
+          ∙ ap (λ k. book_bill m n b (vec_items s.units) k p) c.as_slice-2.ensures.value
           ∙ ap (book_bill m n b (vec_items s.units) (vec_items s.costs)) (lengths (length x) (length y) (length w) s.sizes.customers (omega arith) (omega arith) (omega arith));
       places = tt;
     }

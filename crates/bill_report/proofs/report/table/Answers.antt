@@ -11,21 +11,21 @@ returns c =
     let stations = vec_items f.stations in
     let credits = vec_items f.credits in
     let rows = flat_map (row_of charges stations credits) (range_with_len 0 (length charges)) in
-    let head : string_bytes c.in-ok-text.text ≡ head_of c.args.line c.args.rule =
-    simp (c.word-word.ensures, c.charge-head-head.ensures) at c.in-ok-text.ensures.ok in
-    let with_rows : List ℕ → List ℕ → List ℕ → List ℕ = λ a s d. string_bytes c.in-ok-text.text ++ flat_map (row_of a s d) (range_with_len 0 (length a)) in
-    let added : string_bytes c.add-rows.new.text ≡ string_bytes c.in-ok-text.text ++ rows =
-    c.in-ok-add-rows.ensures ∙ ap (λ a. with_rows a c.as-slice-stations.result.now c.as-slice-credits.result.now) c.as-slice-charges.ensures.value
-    ∙ ap (λ s. with_rows charges s c.as-slice-credits.result.now) c.as-slice-stations.ensures.value ∙ ap (with_rows charges stations) c.as-slice-credits.ensures.value in
-    let charge : c.column_sum.result ≡ sum charges = c.column_sum.ensures.value ∙ ap sum c.as-slice-charges.ensures.value in
-    let station : c.column-sum-2.result ≡ sum stations = c.column-sum-2.ensures.value ∙ ap sum c.as-slice-stations.ensures.value in
-    let credit : c.column-sum-3.result ≡ sum credits = c.column-sum-3.ensures.value ∙ ap sum c.as-slice-credits.ensures.value in
-    let sums : string_bytes c.in-ok-sums.sums ≡ sum_text (sum charges) (sum stations) (sum credits) =
-    c.in-ok-sums.ensures ∙ ap (λ x. sum_text x c.column-sum-2.result c.column-sum-3.result) charge
-    ∙ ap (λ x. sum_text (sum charges) x c.column-sum-3.result) station ∙ ap (λ x. sum_text (sum charges) (sum stations) x) credit in
+    let head : string_bytes c.in_ok-text.text ≡ head_of c.args.line c.args.rule =
+    simp (c.word-word.ensures, c.charge_head-head.ensures) at c.in_ok-text.ensures.ok in
+    let with_rows : List ℕ → List ℕ → List ℕ → List ℕ = λ a s d. string_bytes c.in_ok-text.text ++ flat_map (row_of a s d) (range_with_len 0 (length a)) in
+    let added : string_bytes c.add_rows.new.text ≡ string_bytes c.in_ok-text.text ++ rows =
+    c.in_ok-add_rows.ensures ∙ ap (λ a. with_rows a c.as_slice-stations.result.now c.as_slice-credits.result.now) c.as_slice-charges.ensures.value
+    ∙ ap (λ s. with_rows charges s c.as_slice-credits.result.now) c.as_slice-stations.ensures.value ∙ ap (with_rows charges stations) c.as_slice-credits.ensures.value in
+    let charge : c.column_sum.result ≡ sum charges = c.column_sum.ensures.value ∙ ap sum c.as_slice-charges.ensures.value in
+    let station : c.column_sum-2.result ≡ sum stations = c.column_sum-2.ensures.value ∙ ap sum c.as_slice-stations.ensures.value in
+    let credit : c.column_sum-3.result ≡ sum credits = c.column_sum-3.ensures.value ∙ ap sum c.as_slice-credits.ensures.value in
+    let sums : string_bytes c.in_ok-sums.sums ≡ sum_text (sum charges) (sum stations) (sum credits) =
+    c.in_ok-sums.ensures ∙ ap (λ x. sum_text x c.column_sum-2.result c.column_sum-3.result) charge
+    ∙ ap (λ x. sum_text (sum charges) x c.column_sum-3.result) station ∙ ap (λ x. sum_text (sum charges) (sum stations) x) credit in
     tabled (head_of c.args.line c.args.rule) rows (sum_text (sum charges) (sum stations) (sum credits)) (balance_text f.remainders.short f.remainders.over f.remainders.stranded c.args.all)
-    (string_bytes c.in-ok-text.text) (string_bytes c.add-rows.new.text) (string_bytes c.push-str.new.self) (string_bytes c.push-str-2.new.self) (string_bytes c.in-ok-sums.sums) (string_bytes c.in-ok-balance.balance)
+    (string_bytes c.in_ok-text.text) (string_bytes c.add_rows.new.text) (string_bytes c.push_str.new.self) (string_bytes c.push_str-2.new.self) (string_bytes c.in_ok-sums.sums) (string_bytes c.in_ok-balance.balance)
     head added
-    (c.in-ok-push-str.ensures.bytes ∙ ap (λ b. string_bytes c.add-rows.new.text ++ b) c.as-str.ensures.value)
-    (c.in-ok-push-str-2.ensures.bytes ∙ ap (λ b. string_bytes c.push-str.new.self ++ b) c.as-str-2.ensures.value)
-    sums c.in-ok-balance.ensures
+    (c.in_ok-push_str.ensures.bytes ∙ ap (λ b. string_bytes c.add_rows.new.text ++ b) c.as_str.ensures.value)
+    (c.in_ok-push_str-2.ensures.bytes ∙ ap (λ b. string_bytes c.push_str.new.self ++ b) c.as_str-2.ensures.value)
+    sums c.in_ok-balance.ensures

@@ -10,7 +10,7 @@ returns c =
     let rule = c.args.rule in
     let costs = vec_items c.args.settled.now.costs in
     let f = shown_figures c.in-Ok.figured in
-    let billed = ap shown_figured (sym c.in-Ok.is) ∙ c.in-ok-figured.ensures.figures in
-    let all : c.total-all.result ≡ line_costs n costs = c.total-all.ensures.sum ∙ ap (line_costs n) c.as-slice.ensures.value in
+    let billed = ap shown_figured (sym c.in-Ok.is) ∙ c.in_ok-figured.ensures.figures in
+    let all : c.total-all.result ≡ line_costs n costs = c.total-all.ensures.sum ∙ ap (line_costs n) c.as_slice.ensures.value in
     let accepted : List ℕ → Bool × List ℕ = λ t. (true, t) in
-    ap accepted (c.in-ok-text.ensures ∙ ap (λ k. table_of n rule k f) all) ∙ ap (by_bill n rule (line_costs n costs)) billed
+    ap accepted (c.in_ok-text.ensures ∙ ap (λ k. table_of n rule k f) all) ∙ ap (by_bill n rule (line_costs n costs)) billed

@@ -6,24 +6,24 @@ use Rattle.bill_report.proofs.settling.settled_book.Goals as goal
 
 pub returns-in-Ok : goal.returns-in-Ok
 returns-in-Ok c =
-    let start = c.in-ok-book.ensures in
-    let after = c.load-through-a-pass.new in
+    let start = c.in_ok-book.ensures in
+    let after = c.load_through_a_pass.new in
     let s = opened (open_book after.book) after.units after.costs after.marks in
     let b = frozen_book c.in-Ok.frozen in
-    frozen_after_is c.args.sizes c.args.units.now c.args.costs.now c.args.marks.now c.open.new.marks c.args.bytes.now (open_book c.in-ok-book.book) start.answers start.clears
-    s (closed b after.units after.costs after.marks) b c.in-default.ensures (c.in-Ok.ensures after.units after.costs)
+    frozen_after_is c.args.sizes c.args.units.now c.args.costs.now c.args.marks.now c.open.new.marks c.args.bytes.now (open_book c.in_ok-book.book) start.answers start.clears
+    s (closed b after.units after.costs after.marks) b c.in_default.ensures (c.in-Ok.ensures after.units after.costs)
 
 pub returns-in-Err : goal.returns-in-Err
 returns-in-Err c =
-    let start = c.in-ok-book.ensures in
-    not_loaded c.args.sizes c.args.units.now c.args.costs.now c.args.marks.now c.open.new.marks c.args.bytes.now (open_book c.in-ok-book.book) start.answers start.clears
+    let start = c.in_ok-book.ensures in
+    not_loaded c.args.sizes c.args.units.now c.args.costs.now c.args.marks.now c.open.new.marks c.args.bytes.now (open_book c.in_ok-book.book) start.answers start.clears
     c.in-Err.refusal c.in-Err.ensures
 
 pub returns-in-Err-freeze : goal.returns-in-Err-freeze
 returns-in-Err-freeze c =
-    let start = c.in-ok-book.ensures in
-    let after = c.load-through-a-pass.new in
+    let start = c.in_ok-book.ensures in
+    let after = c.load_through_a_pass.new in
     let s = opened (open_book after.book) after.units after.costs after.marks in
     let b = open_book c.in-Err-freeze.back.0 in
-    not_frozen c.args.sizes c.args.units.now c.args.costs.now c.args.marks.now c.open.new.marks c.args.bytes.now (open_book c.in-ok-book.book) start.answers start.clears
-    s (opened b after.units after.costs after.marks) b c.in-Err-freeze.back.1 c.in-default.ensures (c.in-Err-freeze.ensures after.units after.costs)
+    not_frozen c.args.sizes c.args.units.now c.args.costs.now c.args.marks.now c.open.new.marks c.args.bytes.now (open_book c.in_ok-book.book) start.answers start.clears
+    s (opened b after.units after.costs after.marks) b c.in-Err-freeze.back.1 c.in_default.ensures (c.in-Err-freeze.ensures after.units after.costs)
