@@ -28,8 +28,8 @@ returns-in-Err g c =
     let put = put_refused c.args.out.now c.args.place n whole c.in-Err.refusal same in
     record { answers = put.0; out = put.1; short = none_have n whole c.in-Err.refusal (λ rows. length rows ≤ most_rows n) same; lawful = law; means = c.in-Err.ensures.means }
 
-pub write-line-end-requires : goal.write-line-end-requires
-write-line-end-requires g c =
+pub write_line-end-requires : goal.write_line-end-requires
+write_line-end-requires g c =
     let m = g.R.SharingRule.meaning c.args.rule.now in
     let n = c.args.line in
     let b = frozen_book c.args.book.now in
@@ -60,14 +60,14 @@ returns g c =
     let law = c.in-Ok.ensures.lawful in
     let f = figured c.bill.new.charges c.bill.new.stations c.bill.new.credits c.in-Ok.left in
     let is = billed_tells (book_bill m n b us cs p) f (ap (λ (o : Outcome). o.answer) (c.in-Ok.ensures.answers law [])) in
-    let rows = take (c.write-line-end.result - 0) c.write-line-end.new.out in
+    let rows = take (c.write_line-end.result - 0) c.write_line-end.new.out in
     let whole = book_bill m n b us cs (book_columns b) in
     let same = is ∙ ap (book_bill m n b us cs) (lengths _ _ _ _ pl.0 pl.1 pl.2) in
     let short : SFits w64 c.in-Ok.left.short = search rules in
     let over : SFits w64 c.in-Ok.left.over = search rules in
     let stranded : SFits w64 c.in-Ok.left.stranded = search rules in
     let small = figures_small m law n b.sizes (take b.units us) (take b.costs cs) p f c.args.book.now.numbers.sizes.ok (counted_rows (short_tables b us cs) TableUnfit (bill m n b.sizes (take b.units us) (take b.costs cs) p) f is) in
-    let put = put_rows c.args.out.now c.args.place n whole f rows c.put-bytes.new.out c.put-bytes.result same
-    (front_is c.args.text.now c.write-line-end.new.out (line_text n f) c.write-line-end.result c.write-line-end.ensures.wrote)
-    c.put-bytes.ensures.answers c.put-bytes.ensures.out in
+    let put = put_rows c.args.out.now c.args.place n whole f rows c.put_bytes.new.out c.put_bytes.result same
+    (front_is c.args.text.now c.write_line-end.new.out (line_text n f) c.write_line-end.result c.write_line-end.ensures.wrote)
+    c.put_bytes.ensures.answers c.put_bytes.ensures.out in
     record { answers = put.0; out = put.1; short = rows_have n whole f (λ rows. length rows ≤ most_rows n) same (rows_fit n b.sizes f small short over stranded); lawful = law; means = c.in-Ok.ensures.means }

@@ -4,10 +4,10 @@ use Rattle.line_rows.proofs.parts.write_field.Goals as goal
 
 pub returns : goal.returns
 returns c =
-    let space = c.write-bytes-at.ensures in
+    let space = c.write_bytes-at.ensures in
     let e = space.reached in
     record {
-      wrote = wrote_more c.args.out.now c.write-bytes-at.new.out c.write-number.new.out (codes " ") (decimal c.args.number) c.args.place c.write-bytes-at.result c.write-number.result
-          (omega (arith, c.requires)) space c.write-number.ensures.wrote;
-      near = omega (arith, c.write-number.ensures.near);
+      wrote = wrote_more c.args.out.now c.write_bytes-at.new.out c.write_number.new.out (codes " ") (decimal c.args.number) c.args.place c.write_bytes-at.result c.write_number.result
+          (omega (arith, c.requires)) space c.write_number.ensures.wrote;
+      near = omega (arith, c.write_number.ensures.near);
     }

@@ -12,7 +12,7 @@ unreachable-requires c =
     let fits = c.ranges.number in
     let small : mag n < 2 ^ 63 = fits.sfits in
     let short = length_signed_le 19 n (omega arith) small in
-    never_refused c.args.out.now c.put-signed.new.out (signed_decimal n) c.args.place (omega (arith, c.requires)) c.in-default.field-0 (simp to_z-of_z at c.in-default.ensures.answers)
+    never_refused c.args.out.now c.put_signed.new.out (signed_decimal n) c.args.place (omega (arith, c.requires)) c.in_default.field-0 (simp to_z-of_z at c.in_default.ensures.answers)
 
 pub returns : goal.returns
 returns c =
@@ -20,5 +20,5 @@ returns c =
     let fits = c.ranges.number in
     let small : mag n < 2 ^ 63 = fits.sfits in
     let short = length_signed_le 19 n (omega arith) small in
-    let wrote = written c.args.out.now c.put-signed.new.out (signed_decimal n) c.args.place (omega (arith, c.requires)) c.in-Ok.end (simp to_z-of_z at c.in-Ok.ensures.answers) (simp to_z-of_z at c.in-Ok.ensures.out) in
+    let wrote = written c.args.out.now c.put_signed.new.out (signed_decimal n) c.args.place (omega (arith, c.requires)) c.in-Ok.end (simp to_z-of_z at c.in-Ok.ensures.answers) (simp to_z-of_z at c.in-Ok.ensures.out) in
     record { wrote = wrote; near = let e = wrote.reached in omega arith }

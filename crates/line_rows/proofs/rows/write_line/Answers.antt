@@ -12,12 +12,12 @@ returns c =
     let charges = c.args.charges.now in
     let stations = c.args.stations.now in
     let credits = c.args.credits.now in
-    let rows = c.write-customers-at in
-    let sums : ℕ → ℕ → ℕ → Type 0 = λ x y w. Wrote rows.new.out rows.result (sum_text n x y w left.short left.over left.stranded) c.write-sum.new.out c.write-sum.result in
+    let rows = c.write_customers-at in
+    let sums : ℕ → ℕ → ℕ → Type 0 = λ x y w. Wrote rows.new.out rows.result (sum_text n x y w left.short left.over left.stranded) c.write_sum.new.out c.write_sum.result in
     let last : sums (sum charges) (sum stations) (sum credits) =
-    subst (λ x. sums x (sum stations) (sum credits)) c.column_sum.ensures (subst (λ y. sums c.column_sum.result y (sum credits)) c.column-sum-2.ensures (subst (λ w. sums c.column_sum.result c.column-sum-2.result w) c.column-sum-3.ensures c.write-sum.ensures.wrote)) in
+    subst (λ x. sums x (sum stations) (sum credits)) c.column_sum.ensures (subst (λ y. sums c.column_sum.result y (sum credits)) c.column_sum-2.ensures (subst (λ w. sums c.column_sum.result c.column_sum-2.result w) c.column_sum-3.ensures c.write_sum.ensures.wrote)) in
     record {
-      wrote = wrote_more c.args.out.now rows.new.out c.write-sum.new.out (flat_map (customer_row n charges stations credits) (range_with_len 0 (length charges))) (sum_text n (sum charges) (sum stations) (sum credits) left.short left.over left.stranded) 0 rows.result c.write-sum.result
+      wrote = wrote_more c.args.out.now rows.new.out c.write_sum.new.out (flat_map (customer_row n charges stations credits) (range_with_len 0 (length charges))) (sum_text n (sum charges) (sum stations) (sum credits) left.short left.over left.stranded) 0 rows.result c.write_sum.result
           (omega arith) rows.ensures.wrote last;
-      near = omega (arith, c.write-sum.ensures.near, rows.ensures.near);
+      near = omega (arith, c.write_sum.ensures.near, rows.ensures.near);
     }
