@@ -7,7 +7,7 @@ use Rattle.share_report.proofs.numbers.read_numbers.Goals as goal
 pub loop-word-preserved : goal.loop-word-preserved
 loop-word-preserved c =
     let next = c.in-Some.ensures in
-    let pushed = c.in_ok-push.ensures in
+    let pushed = c.in_ok-push-in-Ok.ensures in
     let more = one_more c.args.text.now c.loop-word.words.rest.now c.next.new.self.rest.now c.in-Some.word.now (vec_items c.loop-word.numbers) (vec_len c.loop-word.numbers + 1) c.in-Ok.number
     c.loop-word.invariant.0 next.0 c.in-Ok.ensures in
     let rest = words c.next.new.self.rest.now in (

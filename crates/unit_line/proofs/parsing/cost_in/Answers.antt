@@ -4,10 +4,10 @@ use Rattle.unit_line.proofs.parsing.cost_in.Goals as goal
 
 pub returns-then-text-gt0 : goal.returns-then-text-gt0
 returns-then-text-gt0 c =
-    not_at_end c.in-ok-amount.text.now _ c.if-text-gt0.true ∙ sym (cost_fields c.args.text.now c.in-ok-line.text.now c.in-ok-subzone.text.now c.in-ok-day.text.now c.in-ok-hour.text.now c.in-ok-amount.text.now c.in-ok-line.line c.in-ok-subzone.subzone c.in-ok-day.day c.in-ok-hour.hour c.in-ok-amount.amount
-    c.in-ok-line.ensures.value c.in-ok-subzone.ensures.value c.in-ok-day.ensures.value c.in-ok-hour.ensures.value c.in-ok-amount.ensures.value)
+    not_at_end c.in_ok-amount.text.now _ c.if-text-gt0.true ∙ sym (cost_fields c.args.text.now c.in_ok-line.text.now c.in_ok-subzone.text.now c.in_ok-day.text.now c.in_ok-hour.text.now c.in_ok-amount.text.now c.in_ok-line.line c.in_ok-subzone.subzone c.in_ok-day.day c.in_ok-hour.hour c.in_ok-amount.amount
+    c.in_ok-line.ensures.value c.in_ok-subzone.ensures.value c.in_ok-day.ensures.value c.in_ok-hour.ensures.value c.in_ok-amount.ensures.value)
 
 pub returns : goal.returns
 returns c =
-    at_end_is c.in-ok-amount.text.now _ c.if-text-gt0.false ∙ sym (cost_fields c.args.text.now c.in-ok-line.text.now c.in-ok-subzone.text.now c.in-ok-day.text.now c.in-ok-hour.text.now c.in-ok-amount.text.now c.in-ok-line.line c.in-ok-subzone.subzone c.in-ok-day.day c.in-ok-hour.hour c.in-ok-amount.amount
-    c.in-ok-line.ensures.value c.in-ok-subzone.ensures.value c.in-ok-day.ensures.value c.in-ok-hour.ensures.value c.in-ok-amount.ensures.value)
+    at_end_is c.in_ok-amount.text.now _ c.if-text-gt0.false ∙ sym (cost_fields c.args.text.now c.in_ok-line.text.now c.in_ok-subzone.text.now c.in_ok-day.text.now c.in_ok-hour.text.now c.in_ok-amount.text.now c.in_ok-line.line c.in_ok-subzone.subzone c.in_ok-day.day c.in_ok-hour.hour c.in_ok-amount.amount
+    c.in_ok-line.ensures.value c.in_ok-subzone.ensures.value c.in_ok-day.ensures.value c.in_ok-hour.ensures.value c.in_ok-amount.ensures.value)
