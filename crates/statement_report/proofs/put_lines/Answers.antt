@@ -5,8 +5,8 @@ use Rattle.statement_report.specs.Statement.{lines_upto, Makes}
 use Rattle.statement_report.proofs.Making.{next_fits, line_more, refused_ends, bytes_upto}
 use Rattle.statement_report.proofs.put_lines.Goals as goal
 
-pub put-line-requires : goal.put-line-requires
-put-line-requires c =
+pub put_line-requires : goal.put_line-requires
+put_line-requires c =
     let fits = next_fits c.loop-before.before c.loop-before-test.true in
     omega (arith, fits.0, fits.1, c.loop-before.invariant.1, c.requires)
 
@@ -16,8 +16,8 @@ returns-in-Err c =
     let s = λ (marks : List ℕ). closed (frozen_book c.args.book.now) c.args.units.now c.args.costs.now marks in
     record {
       makes = λ marks.
-          refused_ends (s marks) (k + 1) c.args.text.now c.put-line.new.text c.put-line.new.text c.in-Err.refusal (omega (arith, c.loop-before-test.true))
-          (line_more (s marks) k c.args.text.now c.loop-before.text c.put-line.new.text c.loop-before.place (Err c.in-Err.refusal) (c.loop-before.invariant.0 marks) (c.in-Err.ensures.makes marks));
+          refused_ends (s marks) (k + 1) c.args.text.now c.put_line.new.text c.put_line.new.text c.in-Err.refusal (omega (arith, c.loop-before-test.true))
+          (line_more (s marks) k c.args.text.now c.loop-before.text c.put_line.new.text c.loop-before.place (Err c.in-Err.refusal) (c.loop-before.invariant.0 marks) (c.in-Err.ensures.makes marks));
       near = tt;
     }
 
@@ -26,7 +26,7 @@ loop-before-preserved c =
     let k = c.loop-before.before in
     let s = λ (marks : List ℕ). closed (frozen_book c.args.book.now) c.args.units.now c.args.costs.now marks in
     let fits = next_fits k c.loop-before-test.true in (
-      λ marks. line_more (s marks) k c.args.text.now c.loop-before.text c.put-line.new.text c.loop-before.place (Ok c.in-Ok.end) (c.loop-before.invariant.0 marks) (c.in-Ok.ensures.makes marks),
+      λ marks. line_more (s marks) k c.args.text.now c.loop-before.text c.put_line.new.text c.loop-before.place (Ok c.in-Ok.end) (c.loop-before.invariant.0 marks) (c.in-Ok.ensures.makes marks),
       omega (arith, fits.0, c.loop-before.invariant.1, c.in-Ok.ensures.near),
     )
 

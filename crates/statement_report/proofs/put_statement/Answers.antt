@@ -6,10 +6,10 @@ use Rattle.statement_report.proofs.put_statement.Goals as goal
 
 pub returns : goal.returns
 returns c =
-    let after = c.settle-file.new in
-    let b = frozen_book c.in-Ok-settle-file.book in
-    let same = settled_lines c.args.file.now c.in-Ok.sizes b after.units after.costs after.marks c.in-Ok.ensures c.in-Ok-settle-file.ensures in
+    let after = c.settle_file.new in
+    let b = frozen_book c.in-Ok-settle_file.book in
+    let same = settled_lines c.args.file.now c.in-Ok.sizes b after.units after.costs after.marks c.in-Ok.ensures c.in-Ok-settle_file.ensures in
     record {
-      makes = subst (λ t. Makes t c.args.text.now 0 c.put-lines.result c.put-lines.new.text) same (c.put-lines.ensures.makes after.marks);
-      near = c.put-lines.ensures.near;
+      makes = subst (λ t. Makes t c.args.text.now 0 c.put_lines.result c.put_lines.new.text) same (c.put_lines.ensures.makes after.marks);
+      near = c.put_lines.ensures.near;
     }
