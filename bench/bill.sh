@@ -1,10 +1,10 @@
 #!/usr/bin/env bash
 # Measures a bill of each line over the largest book: 256 customers, 31 days, 32 subzones, 2,048
 # unit rows, and 512 cost rows of the line, spread over as many cells as there are. Prints the
-# processor time of one run of the program `bill`, the mean of several. Run `rt check bill` first.
+# processor time of one run of the program `bill`, the mean of several. Run `rt run` in crates/bill first.
 set -euo pipefail
 cd "$(dirname "$0")/.."
-bill="$PWD/target/bin/bill"
+bill="$PWD/crates/bill/out/bill"
 runs="${1:-20}"
 work="$(mktemp -d)"
 trap 'rm -rf "$work"' EXIT

@@ -3,10 +3,10 @@
 # and 512 cost rows spread over the seven lines and over many subzones, days and hours; beside it a
 # plain C program of the same job, bench/statement.c. Checks that both print the same bytes, and
 # prints the processor time of one run of each, the mean of several that take turns, and the ratio.
-# Run `rt check statement` first.
+# Run `rt run` in crates/statement first.
 set -euo pipefail
 cd "$(dirname "$0")/.."
-statement="$PWD/target/bin/statement"
+statement="$PWD/crates/statement/out/statement"
 runs="${1:-200}"
 work="$(mktemp -d)"
 trap 'rm -rf "$work"' EXIT

@@ -5,11 +5,11 @@ ghost use Rattle.std.specs.Prelude.{◌≡◌, IfOk};
 ghost use Rattle.bill_report.specs.Report.{report_of};
 ghost use Rattle.bill_report.specs.Shown.{shown_report};
 
-use anyhow::anyhow;
 use bill_report::report::{Report, RuleName, report_on};
 use std::alloc::{AllocError, Global};
 use std::env;
 use std::io::Read;
+use std::process::ExitCode;
 
 // The answer to the arguments and the bytes that were read.
 pub fn answer_to(heap: Global, line: u8, rule: RuleName, input: &[u8]) -> Result<Report, AllocError>
@@ -60,9 +60,9 @@ fn run(rt: &HostRuntime) -> anyhow::Result<bool> {
     Ok(false)
 }
 
-fn main(rt: HostRuntime) -> anyhow::Result<()> {
+fn main(rt: HostRuntime) -> anyhow::Result<ExitCode> {
     if run(&rt)? {
-        return Ok(());
+        return Ok(ExitCode::SUCCESS);
     }
-    Err(anyhow!("refused"))
+    Ok(ExitCode::FAILURE)
 }

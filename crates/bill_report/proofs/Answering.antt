@@ -1,9 +1,9 @@
 -- The figures of a bill as its caller reads them. Assumes nothing.
-use Rattle.std.proofs.Common.{◌≡◌, ℕ, List, Ok, Err, Result, sym, refl, ap, ◌∙◌, arith}
+use Rattle.std.proofs.Common.{◌≡◌, ℕ, List, Ok, Err, Result, ap, ◌∙◌, arith}
 use Rattle.tariff.specs.declared.refusal.Refusal.{Refusal}
 use Rattle.bill_rules.specs.declared.Remainders.{Remainders}
 use Rattle.bill_rules.specs.Bill.{Figures, Lengths}
-use Rattle.book_rules.specs.Run.{Answer, billed, refused, told_bill}
+use Rattle.book_rules.specs.Run.{billed, refused, told_bill}
 
 abbrev pub figured : List ℕ → List ℕ → List ℕ → Remainders → Figures
 figured charges stations credits left = record { charges = charges; stations = stations; credits = credits; short = left.short; over = left.over; stranded = left.stranded }

@@ -9,7 +9,7 @@
 --   table_of               the table of a bill
 --   refused_line           the line for a refusal
 --   report_of              whether the bill is accepted, and the table or the line
-use Rattle.std.specs.Prelude.{ℕ, Bool, true, false, cond, List, [], ◌∷◌, ◌++◌, length, ℤ, pos, ◌+ℤ◌, ◌-ℤ◌, Ok, Err, codes, decimal, sum, Result, ◌==◌, slice_index}
+use Rattle.std.specs.Prelude.{ℕ, Bool, true, false, cond, List, ◌++◌, length, ℤ, pos, ◌+ℤ◌, ◌-ℤ◌, Ok, Err, codes, decimal, sum, Result, ◌==◌, slice_index}
 use Rattle.std.specs.List.{range_with_len, flat_map}
 use Rattle.std.specs.Fmt.{signed_decimal}
 use Rattle.tariff.specs.declared.refusal.Refusal.{Refusal}

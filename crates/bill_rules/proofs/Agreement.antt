@@ -1,5 +1,5 @@
 -- Rows that agree on a line are billed alike.
-use Rattle.std.proofs.Common.{◌≡◌, ℕ, zero, suc, ◌+◌, ◌*◌, ◌/◌, ◌<◌, ◌≤◌, Bool, true, false, cond, not, ◌&&◌, ◌||◌, eqb, ltb, leb, ◌⊎◌, List, [], ◌∷◌, ◌++◌, map, length, get_or, ℤ, pos, ◌-ℤ◌, is_some, Some, None, Ok, Err, sum_by, sum, Option, sym, refl, ap, ◌∙◌, subst, inl, inr, ⊎_elim, arith}
+use Rattle.std.proofs.Common.{◌≡◌, ℕ, ◌*◌, ◌/◌, ◌<◌, Bool, true, false, cond, not, ◌&&◌, ◌||◌, eqb, ltb, leb, List, [], ◌∷◌, ◌++◌, map, length, get_or, ℤ, pos, ◌-ℤ◌, is_some, Some, None, Ok, sum_by, sum, Option, sym, refl, ap, ◌∙◌, subst, ⊎_elim, arith}
 use Rattle.std.specs.List.{range_with_len, flat_map, AllByRecursion as All}
 use Rattle.std.proofs.ByRecursion.{All-weaker, All-append, All-from_get_or}
 use Rattle.std.proofs.lemmas.List.FromFn.{length-range_with_len, get_or-range_with_len}
@@ -18,13 +18,13 @@ use Rattle.lines.specs.declared.line.Kinds.{Kinds}
 use Rattle.lines.specs.declared.line.Kinds.TheVariants.{Only}
 use Rattle.lines.specs.declared.line.Line.{Line}
 use Rattle.lines.specs.Sizes.{outside}
-use Rattle.lines.specs.Lines.{counts, zonal, dated, timed, look_up, schedule, line_of}
-use Rattle.lines.specs.Cells.{cell, in_area, at_time, holds, axis, areas, days, hours, cells, whole_days, days_for, station_days}
+use Rattle.lines.specs.Lines.{counts, dated, timed, look_up, schedule, line_of}
+use Rattle.lines.specs.Cells.{cell, in_area, at_time, holds, axis, areas, days, hours, cells, days_for, station_days}
 use Rattle.lines.specs.Totals.{part, unit_place, cost_line, cost_place, cost_amount, cost_in, line_costs}
 use Rattle.lines.specs.Rows.{unlawful_unit, unlawful_cost, unit_fault, cost_fault, unit_faults, cost_faults, no_units, no_cost}
 use Rattle.lines.proofs.Firsts.{first_append, first_fails}
 use Rattle.sharing.specs.Rule.{Meaning, Lawful}
-use Rattle.bill_rules.specs.Bill.{sum_z, Figures, unit_part, units_of, station_units_of, pool, counted, shares, share_of, short_of, stranded_of, station_units, station_of, recovered, credits_in, credit_of, over_of, column, figures, too_large_at, too_large, figures_for, too_large_for, Lengths, misfit, bill_refusal, bill}
+use Rattle.bill_rules.specs.Bill.{Figures, unit_part, units_of, pool, counted, shares, share_of, short_of, stranded_of, station_units, station_of, recovered, credits_in, credit_of, over_of, column, figures, too_large_at, too_large, figures_for, too_large_for, Lengths, misfit, bill_refusal, bill}
 use Rattle.bill_rules.specs.Laws.{Balances, LawfulRows, AgreeOn, Agree, LawsOfBilling}
 use Rattle.bill_rules.proofs.Sums.{sum_by_zero, sum_by_eq, sum_by_same, sum_by_swap, sum_z_same}
 use Rattle.bill_rules.proofs.Cells.{OneOf, on_axis, over_hours, grid}

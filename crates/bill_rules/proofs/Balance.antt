@@ -1,5 +1,5 @@
 -- The balance of a bill, and how near each of its figures is to its exact fraction.
-use Rattle.std.proofs.Common.{◌≡◌, ℕ, zero, suc, ◌+◌, ◌*◌, ◌/◌, ◌<◌, ◌≤◌, Bool, true, false, cond, ◌&&◌, ◌||◌, eqb, ltb, List, [], ◌∷◌, map, length, get_or, replicate, ℤ, pos, ◌+ℤ◌, ◌-ℤ◌, Some, None, sum_by, sum, Option, sym, refl, ap, ◌∙◌, subst, div-mul-le_self, arith}
+use Rattle.std.proofs.Common.{◌≡◌, ℕ, zero, suc, ◌+◌, ◌*◌, ◌/◌, ◌<◌, ◌≤◌, Bool, true, false, cond, ◌&&◌, ◌||◌, eqb, ltb, List, [], ◌∷◌, length, get_or, replicate, ℤ, pos, ◌+ℤ◌, ◌-ℤ◌, Some, sum_by, sum, sym, refl, ap, ◌∙◌, subst, div-mul-le_self, arith}
 use native.Mathlib.Nat.{div-zero, lt-div-mul-add}
 use Rattle.std.specs.List.{range_with_len, AllByRecursion as All}
 use Rattle.std.proofs.lemmas.List.Sums.{sum_by-cons, sum-map}
@@ -17,11 +17,11 @@ use Rattle.lines.specs.declared.line.Kinds.TheVariants.{Only}
 use Rattle.lines.specs.declared.line.Line.{Line}
 use Rattle.lines.specs.Sizes.{outside}
 use Rattle.lines.specs.Lines.{zonal, dated, timed, look_up, schedule, line_of}
-use Rattle.lines.specs.Cells.{holds, axis, areas, days, hours, cells, station_days}
+use Rattle.lines.specs.Cells.{holds, areas, days, hours, cells, station_days}
 use Rattle.lines.specs.Totals.{part, cost_line, cost_place, cost_amount, cost_in, line_costs}
 use Rattle.lines.specs.Rows.{wrong, unlawful_for, unlawful_cost}
 use Rattle.sharing.specs.Rule.{Meaning, Lawful}
-use Rattle.bill_rules.specs.Bill.{sum_z, Figures, units_of, pool, counted, shares, share_of, short_of, stranded_of, station_units, station_of, recovered, credits_in, credit_of, over_of, column, figures}
+use Rattle.bill_rules.specs.Bill.{sum_z, units_of, pool, counted, shares, short_of, stranded_of, station_units, station_of, recovered, credits_in, credit_of, over_of, column, figures}
 use Rattle.bill_rules.specs.Laws.{Balances, Near, Close}
 use Rattle.bill_rules.proofs.Sums.{sum_by_zero, sum_by_eq, sum_by_same, sum_by_swap, sum_places, sums_balance}
 use Rattle.bill_rules.proofs.Cells.{on_axis, in_one}

@@ -1,5 +1,5 @@
 -- Loops over areas or days that charge and credit, until one is refused.
-use Rattle.std.proofs.Common.{◌≡◌, ℕ, zero, suc, ◌+◌, ◌-◌, ◌*◌, ◌<◌, ◌≤◌, Bool, List, [], ◌∷◌, ◌++◌, map, length, get_or, Some, None, sum_by, sym, refl, ap, ◌∙◌, subst, inl, inr, mul-add, arith}
+use Rattle.std.proofs.Common.{◌≡◌, ℕ, zero, suc, ◌+◌, ◌-◌, ◌*◌, ◌<◌, ◌≤◌, Bool, List, [], ◌∷◌, map, length, get_or, Some, None, sum_by, sym, refl, ap, ◌∙◌, subst, inl, inr, mul-add, arith}
 use Rattle.std.specs.List.{range_with_len, flat_map}
 use Rattle.std.proofs.lemmas.List.{map-append}
 use Rattle.std.proofs.lemmas.Bool.{cases_eq}
@@ -14,7 +14,7 @@ use Rattle.lines.proofs.Firsts.{first_append, first_found}
 use Rattle.sharing.specs.Rule.{Meaning}
 use Rattle.bill_rules.specs.Bill.{station_of, credit_of}
 use Rattle.bill_rules.proofs.Sums.{sum_by_joined}
-use Rattle.billing.specs.Work.{Adds, Rises, Credited}
+use Rattle.billing.specs.Work.{Credited}
 use Rattle.billing.proofs.Walks.{count_none, count_more}
 
 -- a list of single cells

@@ -1,17 +1,15 @@
 -- What a lawful rule gives of the pool of a cell, or of an area and day.
-use Rattle.std.proofs.Common.{◌≡◌, ℕ, zero, suc, ◌+◌, ◌*◌, ◌<◌, ◌≤◌, Bool, true, false, cond, not, ◌&&◌, ◌||◌, eqb, ltb, List, [], ◌∷◌, map, length, get_or, replicate, None, sum_by, sum, sym, refl, ap, ◌∙◌, subst, inl, inr, arith}
+use Rattle.std.proofs.Common.{◌≡◌, ℕ, zero, suc, ◌+◌, ◌<◌, ◌≤◌, Bool, true, false, cond, ◌&&◌, eqb, List, map, length, get_or, None, sum_by, sum, refl, ap, ◌∙◌, inl, inr, arith}
 use Rattle.std.specs.List.{range_with_len}
-use Rattle.std.proofs.lemmas.Nat.{mul-le}
 use Rattle.std.proofs.lemmas.List.FromFn.{length-map-range_with_len}
-use Rattle.std.proofs.lemmas.List.{get_or-replicate, get_or_past}
+use Rattle.std.proofs.lemmas.List.{get_or-replicate}
 use Rattle.std.proofs.lemmas.List.Sums.{sum_by-cons, sum-map}
 use Rattle.std.proofs.lemmas.Bool.{cases_eq, cases_lt, eq-eqb, ne_eqb, cond-true, cond-false}
 use Rattle.std.proofs.lemmas.Bool.Decides.{nat_tests}
 use Rattle.tariff.specs.declared.rows.Sizes.{Sizes}
 use Rattle.tariff.specs.declared.rows.UnitRow.{UnitRow}
 use Rattle.tariff.specs.declared.rows.CostRow.{CostRow}
-use Rattle.tariff.specs.declared.refusal.Refusal.TheVariants.{RuleInput}
-use Rattle.tariff.specs.Limits.{most_customers, most_amount}
+use Rattle.tariff.specs.Limits.{most_amount}
 use Rattle.lines.specs.declared.cell.Cell.{Cell}
 use Rattle.lines.specs.declared.line.Kinds.{Kinds}
 use Rattle.lines.specs.declared.line.Line.{Line}
@@ -20,7 +18,7 @@ use Rattle.lines.specs.Cells.{cell, in_area, at_time}
 use Rattle.lines.specs.Totals.{belongs, unit_place, all_quantities, part, cost_line, cost_place, cost_amount, cost_in}
 use Rattle.sharing.specs.Rule.{Meaning, Lawful, share_refusal}
 use Rattle.sharing.proofs.Theorems.{laws_of_sharing}
-use Rattle.bill_rules.specs.Bill.{unit_part, units_of, units_in, pool, counted, shares, share_of, stranded_of}
+use Rattle.bill_rules.specs.Bill.{unit_part, units_of, units_in, pool, counted, share_of, stranded_of}
 use Rattle.bill_rules.proofs.Sums.{sum_by_mono, sum_by_swap, sum_by_map, sum_by_eq, sum_by_zero}
 use Rattle.billing.specs.Work.{Sound}
 

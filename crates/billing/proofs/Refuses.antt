@@ -1,5 +1,5 @@
 -- The refusals of a bill before it is worked out.
-use Rattle.std.proofs.Common.{◌≡◌, ℕ, Bool, true, false, cond, not, ◌||◌, eqb, List, ◌++◌, is_some, is_err, IfOk, Some, None, Ok, Err, sum, Option, Result, sym, refl, ap, ◌∙◌, subst, arith}
+use Rattle.std.proofs.Common.{◌≡◌, ℕ, Bool, false, cond, not, eqb, List, ◌++◌, is_some, is_err, IfOk, Some, None, Ok, Err, sum, Option, Result, sym, refl, ap, ◌∙◌, subst, arith}
 use Rattle.std.specs.Option.{ok_or}
 use Rattle.std.proofs.lemmas.Result.{IfOk-from_err}
 use Rattle.std.proofs.lemmas.Int.{ints}
@@ -18,7 +18,7 @@ use Rattle.lines.proofs.Firsts.{first_append, first_found}
 use Rattle.sharing.specs.Rule.{Meaning, Lawful}
 use Rattle.bill_rules.specs.declared.Remainders.{Remainders}
 use Rattle.bill_rules.specs.Bill.{Figures, too_large_for, figures_for, Lengths, misfit, bill_refusal, bill, told, column_after}
-use Rattle.bill_rules.specs.Laws.{Balanced, LawfulRows}
+use Rattle.bill_rules.specs.Laws.{Balanced}
 use Rattle.bill_rules.proofs.Agreement.{bill_balances}
 use Rattle.billing.specs.Work.{line_figures, Billable}
 

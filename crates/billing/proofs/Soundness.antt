@@ -1,9 +1,9 @@
 -- Lawful rows of a book of checked sizes are sound for a bill.
-use Rattle.std.proofs.Common.{◌≡◌, ℕ, zero, suc, ◌+◌, ◌-◌, ◌*◌, ◌^◌, ◌<◌, ◌≤◌, Bool, true, false, cond, not, ◌&&◌, ◌||◌, eqb, ltb, leb, List, [], ◌∷◌, length, get_or, take, Some, None, sum_by, sym, refl, ap, ◌∙◌, subst, inl, inr, ⊎_elim, add-mul, add-one, arith, take_all}
-use Rattle.std.specs.List.{range_with_len, AllByRecursion as All}
-use Rattle.std.proofs.ByRecursion.{All-weaker, All-get_or}
+use Rattle.std.proofs.Common.{◌≡◌, ℕ, zero, suc, ◌+◌, ◌-◌, ◌*◌, ◌^◌, ◌<◌, ◌≤◌, Bool, true, false, ◌&&◌, ◌||◌, eqb, ltb, leb, List, length, get_or, take, Some, None, sum_by, sym, refl, ap, ◌∙◌, subst, inl, inr, ⊎_elim, add-mul, add-one, arith, take_all}
+use Rattle.std.specs.List.{range_with_len}
+use Rattle.std.proofs.ByRecursion.{All-weaker}
 use Rattle.std.proofs.lemmas.List.Sums.{sum_by-cons, sum_by_more}
-use Rattle.std.proofs.lemmas.Bool.{or_parts, or_cases, and_parts, and_cases, leb-false, ltb-false, eqb-true, not-false, cases_Bool, cases_lt, eq-eqb, ne_eqb, false≢true, cond-true, cond-false}
+use Rattle.std.proofs.lemmas.Bool.{or_parts, or_cases, and_parts, leb-false, ltb-false, eqb-true, not-false, cases_Bool, cases_lt, false≢true, cond-false}
 use Rattle.tariff.specs.declared.refusal.Refusal.TheVariants.{UnlawfulRow}
 use Rattle.tariff.specs.declared.refusal.Table.TheVariants.{Unit as UnitTable, Cost as CostTable}
 use Rattle.tariff.specs.declared.rows.Sizes.{Sizes}
@@ -15,7 +15,7 @@ use Rattle.lines.specs.declared.line.Kinds.TheVariants.{Only}
 use Rattle.lines.specs.declared.line.Line.{Line}
 use Rattle.lines.specs.Sizes.{outside, unfit}
 use Rattle.lines.specs.Lines.{zonal, dated, timed, line_of}
-use Rattle.lines.specs.Cells.{cell, in_area, at_time, holds, axis, areas, days, hours, cells}
+use Rattle.lines.specs.Cells.{cell, in_area, at_time, holds, axis, areas, days, hours}
 use Rattle.lines.specs.Totals.{all_quantities, part, cost_line, cost_place, cost_amount, cost_in, line_costs, alike}
 use Rattle.lines.specs.Rows.{wrong, unlawful_unit, unlawful_cost, unit_fault, cost_fault, unit_faults, cost_faults, no_units, no_cost}
 use Rattle.lines.proofs.Firsts.{first_fails}

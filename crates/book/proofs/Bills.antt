@@ -1,5 +1,5 @@
 -- What a bill answers and leaves is the machine's answer. Assumes nothing.
-use Rattle.std.proofs.Common.{◌≡◌, ℕ, ◌-◌, ◌≤◌, true, cond, ◌||◌, ltb, List, length, take, ℤ, Ok, Err, Result, sym, refl, ap, ◌∙◌, arith}
+use Rattle.std.proofs.Common.{◌≡◌, ℕ, ◌≤◌, true, cond, ◌||◌, ltb, List, length, take, ℤ, Ok, Err, Result, sym, ap, ◌∙◌}
 use Rattle.std.proofs.lemmas.Bool.{or_from, le-ltb}
 use Rattle.tariff.specs.declared.refusal.Refusal.{Refusal}
 use Rattle.tariff.specs.declared.refusal.Refusal.TheVariants.{TableUnfit}
@@ -9,7 +9,7 @@ use Rattle.sharing.specs.Rule.{Meaning}
 use Rattle.bill_rules.specs.declared.Remainders.{Remainders}
 use Rattle.bill_rules.specs.Bill.{Figures, Lengths, bill, told, column_after}
 use Rattle.book_rules.specs.Machine.{Book, book_bill}
-use Rattle.book_rules.specs.Run.{Answer, billed, refused, told_bill}
+use Rattle.book_rules.specs.Run.{billed, told_bill}
 use Rattle.book.specs.Told.{told_figures}
 
 -- where the tables are long enough, the bill is that of the counted rows

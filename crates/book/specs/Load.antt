@@ -21,7 +21,7 @@ use Rattle.tariff.specs.Refusals.{first_of, number}
 use Rattle.unit_file.specs.Records.{Item, header, unit, cost, note}
 use Rattle.unit_file.specs.Reading.{open_refusal, record_at, next_place, ordered_at, place_in_order}
 use Rattle.book_rules.specs.Machine.{Pass, unmarked, valid, short_tables}
-use Rattle.book_rules.specs.Run.{State, Call, post, add_cost, Answer, accepted, gave, row, froze, stayed_open, reopened, billed, refused, not_offered, Outcome, step, final}
+use Rattle.book_rules.specs.Run.{State, Call, post, add_cost, Answer, accepted, gave, row, froze, stayed_open, reopened, billed, refused, not_offered, step, final}
 use Rattle.book.specs.declared.load.LoadReport.{LoadReport}
 use Rattle.book.specs.declared.load.RefusedBy.{RefusedBy}
 use Rattle.book.specs.declared.load.RefusedBy.TheVariants.{Nobody, File, Book as TheBook}

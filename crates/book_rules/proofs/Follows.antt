@@ -1,6 +1,6 @@
 -- The rows that a book counts are those of its history, and lawful; so each bill follows them.
 -- Assumes nothing.
-use Rattle.std.proofs.Common.{◌≡◌, ℕ, zero, suc, ◌+◌, ◌<◌, ◌≤◌, Bool, true, false, cond, not, ◌&&◌, ◌||◌, eqb, ltb, leb, ◌⊎◌, List, [], ◌∷◌, ◌++◌, length, get_or, take, set, Some, None, Ok, Err, sum_by, Option, Result, sym, refl, ap, ◌∙◌, subst, inl, inr, ⊎_elim, arith, length-set, length-take-le, get_or-take}
+use Rattle.std.proofs.Common.{◌≡◌, ℕ, zero, suc, ◌+◌, ◌≤◌, Bool, true, false, cond, ◌&&◌, ◌||◌, eqb, ltb, leb, List, [], ◌∷◌, ◌++◌, length, get_or, take, set, Some, None, Ok, Err, Option, Result, sym, refl, ap, ◌∙◌, ⊎_elim, arith, length-set, length-take-le, get_or-take}
 use Rattle.std.specs.List.{AllByRecursion as All}
 use Rattle.std.proofs.lemmas.List.Sums.{sum_by_push, sum_by-take-le}
 use Rattle.std.proofs.lemmas.List.{take_more_set}
@@ -15,21 +15,20 @@ use Rattle.tariff.specs.declared.rows.CostRow.{CostRow}
 use Rattle.tariff.specs.Limits.{most_amount, hours_of_day}
 use Rattle.tariff.specs.Refusals.{first_of}
 use Rattle.sharing.specs.Rule.{Rule}
-use Rattle.lines.specs.declared.cell.Cell.{Cell}
 use Rattle.lines.specs.declared.line.Kinds.TheVariants.{Only}
 use Rattle.lines.specs.declared.line.Line.{Line}
 use Rattle.lines.specs.Cells.{cell, holds}
-use Rattle.lines.specs.Lines.{line_of, zonal, dated, timed}
+use Rattle.lines.specs.Lines.{line_of, zonal, dated}
 use Rattle.lines.specs.Rows.{unlawful_unit, wrong, unlawful_for, unlawful_cost, no_units, no_cost, unit_fault, cost_fault}
 use Rattle.lines.specs.Sizes.{outside}
 use Rattle.lines.specs.Totals.{part, cost_place, cost_line, cost_amount, cost_in, all_quantities, alike}
 use Rattle.lines.proofs.Firsts.{first_none}
-use Rattle.bill_rules.specs.Bill.{Figures, Lengths, misfit, bill as line_bill}
-use Rattle.bill_rules.specs.Laws.{LawfulRows, Agree}
+use Rattle.bill_rules.specs.Bill.{Figures, Lengths, bill as line_bill}
+use Rattle.bill_rules.specs.Laws.{LawfulRows}
 use Rattle.bill_rules.proofs.Agreement.{laws_of_billing}
 use Rattle.book_rules.specs.Machine.{Pass, post_tests, post_refusal, cost_tests, cost_refusal, correct_tests, correct_refusal, corrected, with_quantity, admit_refusal, remove_refusal, hand_in_refusal, freeze_refusal, short_tables, book_bill}
-use Rattle.book_rules.specs.Run.{State, Call, admit, remove, hand_in, post, add_cost, correct, freeze, reopen, take_in, bill, Answer, billed, refused, Outcome, outcome, frozen_by, told_bill, perform, offers, stepped, step, Event, event, final, history, units_in, costs_in}
-use Rattle.book_rules.specs.Laws.{past, bill_after, Follows, Alike}
+use Rattle.book_rules.specs.Run.{State, Call, admit, remove, hand_in, post, add_cost, correct, freeze, reopen, take_in, bill, Answer, billed, Outcome, outcome, frozen_by, told_bill, perform, offers, stepped, step, Event, event, final, history, units_in, costs_in}
+use Rattle.book_rules.specs.Laws.{past, bill_after, Follows}
 
 -- a list of tests of which none holds
 none_all : (ts : List (Bool × Refusal)) → first_of ts ≡ None → All (λ (t : Bool × Refusal). t.0 ≡ false) ts

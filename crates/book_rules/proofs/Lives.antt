@@ -1,15 +1,12 @@
 -- The laws of a book's life, of every book as opening leaves it. Assumes nothing.
-use Rattle.std.proofs.Common.{◌≡◌, ℕ, Bool, true, false, not, eqb, List, sym, refl, ap, ◌∙◌, subst}
+use Rattle.std.proofs.Common.{◌≡◌, ℕ, false, not, eqb, sym, refl, ap, ◌∙◌, subst}
 use Rattle.std.proofs.lemmas.Bool.{or_parts, eqb-true, not-false}
 use Rattle.tariff.specs.declared.rows.Sizes.{Sizes}
-use Rattle.tariff.specs.declared.rows.UnitRow.{UnitRow}
-use Rattle.tariff.specs.declared.rows.CostRow.{CostRow}
-use Rattle.sharing.specs.Rule.{Rule}
 use Rattle.bill_rules.specs.Bill.{Lengths, misfit, bill as line_bill}
-use Rattle.bill_rules.specs.Laws.{LawfulRows, Agree}
+use Rattle.bill_rules.specs.Laws.{LawfulRows}
 use Rattle.bill_rules.proofs.Agreement.{laws_of_billing}
-use Rattle.book_rules.specs.Run.{State, Call, told_bill, final, units_in, costs_in, at_opening}
-use Rattle.book_rules.specs.Laws.{past, bill_after, Alike, LawsOfALife}
+use Rattle.book_rules.specs.Run.{State, told_bill, units_in, costs_in, at_opening}
+use Rattle.book_rules.specs.Laws.{past, Alike, LawsOfALife}
 use Rattle.book_rules.proofs.Follows.{rows_lawful, bill_follows, follows}
 use Rattle.book_rules.proofs.Voids.{powerless}
 

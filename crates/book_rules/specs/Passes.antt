@@ -7,8 +7,7 @@
 --   is_void         a call is made with a voided pass
 --   struck         a list of calls with every call made with a voided pass struck out
 --   others_answers  what the other calls answer in the run of the whole list
-use Rattle.std.specs.Prelude.{ℕ, Bool, true, false, cond, ◌&&◌, ◌||◌, List, [], ◌∷◌, Some, None, Option, ◌==◌}
-use Rattle.tariff.specs.declared.refusal.Refusal.{Refusal}
+use Rattle.std.specs.Prelude.{ℕ, Bool, false, cond, ◌&&◌, ◌||◌, List, [], ◌∷◌, Some, None, Option, ◌==◌}
 use Rattle.book_rules.specs.Machine.{Pass}
 use Rattle.book_rules.specs.Run.{State, Call, admit, remove, hand_in, post, add_cost, correct, freeze, reopen, take_in, bill, Answer, accepted, gave, row, froze, stayed_open, reopened, billed, refused, not_offered, step, Event, event, is_accepted}
 

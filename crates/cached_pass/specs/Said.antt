@@ -4,7 +4,6 @@ use Rattle.std.specs.Prelude.{ℕ, List, Ok, Err, Result}
 use Rattle.tariff.specs.declared.refusal.Refusal.{Refusal}
 use Rattle.tariff.specs.Refusals.{number}
 use Rattle.bill_rules.specs.declared.Remainders.{Remainders}
-use Rattle.cached_pass.specs.declared.said.Billed.{Billed}
 use Rattle.cached_pass.specs.declared.said.Said.{Said}
 use Rattle.cached_pass.specs.declared.said.Said.TheVariants.{Done, Row, Bill, Refused}
 

@@ -5,9 +5,9 @@ ghost use Rattle.std.specs.Prelude.{◌≡◌, IfOk};
 ghost use Rattle.unit_file.specs.Laws.{ReadBack};
 ghost use Rattle.unit_text.specs.Composing.{composed, filed, Restored};
 
-use anyhow::anyhow;
 use std::alloc::{AllocError, Global};
 use std::io::{Read, Write};
+use std::process::ExitCode;
 use unit_text::{Fault, compose};
 
 // What is printed for a text: the file, or nothing and its first fault.
@@ -31,10 +31,10 @@ fn run(rt: &HostRuntime) -> anyhow::Result<Option<Fault>> {
     }
 }
 
-fn main(rt: HostRuntime) -> anyhow::Result<()> {
+fn main(rt: HostRuntime) -> anyhow::Result<ExitCode> {
     let Some(fault) = run(&rt)? else {
-        return Ok(());
+        return Ok(ExitCode::SUCCESS);
     };
     eprintln!(rt; "compose: {fault}")?;
-    Err(anyhow!("refused"))
+    Ok(ExitCode::FAILURE)
 }

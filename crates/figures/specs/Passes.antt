@@ -5,7 +5,7 @@
 --   last_but_one     an open book that has given out every pass number but the last
 --   WorkedPasses  admit 5, remove 5, admit 5: a post with the first pass is refused, with the second it is row 0;
 --                  the last pass number is given out, and the admit after it is refused
-use Rattle.std.specs.Prelude.{◌≡◌, ℕ, List, [], ◌∷◌, replicate}
+use Rattle.std.specs.Prelude.{◌≡◌, ℕ, [], ◌∷◌, replicate}
 use Rattle.tariff.specs.declared.refusal.Refusal.TheVariants.{UnknownContributor, PassNumbersUsedUp, PassNotValid}
 use Rattle.tariff.specs.declared.rows.UnitRow.{UnitRow}
 use Rattle.tariff.specs.Limits.{contributors}

@@ -7,12 +7,12 @@ ghost use Rattle.sharing.specs.Rules.{down, running};
 ghost use Rattle.journal_book.specs.Shown.{rules_for};
 ghost use Rattle.journal_session.specs.Session.{shown_session, without_end, line_step, Answers};
 
-use anyhow::anyhow;
 use journal_session::{LineFault, Session, without_end};
 use sharing::{Down, Running};
 use std::alloc::{AllocError, Global};
 use std::io;
 use std::io::{BufRead, BufReader, Write};
+use std::process::ExitCode;
 
 // How a line went on.
 enum Went {
@@ -96,9 +96,9 @@ fn run(rt: &HostRuntime) -> anyhow::Result<bool> {
     Ok(true)
 }
 
-fn main(rt: HostRuntime) -> anyhow::Result<()> {
+fn main(rt: HostRuntime) -> anyhow::Result<ExitCode> {
     if run(&rt)? {
-        return Ok(());
+        return Ok(ExitCode::SUCCESS);
     }
-    Err(anyhow!("out of form"))
+    Ok(ExitCode::FAILURE)
 }

@@ -1,13 +1,12 @@
 -- How large the figures of an accepted bill can be, under any lawful rule.
-use Rattle.std.proofs.Common.{◌≡◌, ℕ, zero, suc, ◌+◌, ◌*◌, ◌^◌, ◌<◌, ◌≤◌, Bool, true, false, cond, eqb, ltb, List, [], ◌∷◌, map, length, get_or, is_some, Some, None, Ok, sum_by, Option, Result, sym, refl, ap, ◌∙◌, subst, mul-le-mul_right, add-mul, arith}
-use Rattle.std.specs.List.{range_with_len, flat_map, AllByRecursion as All}
+use Rattle.std.proofs.Common.{◌≡◌, ℕ, ◌*◌, ◌^◌, ◌<◌, ◌≤◌, Bool, true, false, cond, eqb, ltb, List, [], ◌∷◌, map, length, get_or, is_some, Some, None, Ok, sum_by, Option, sym, refl, ap, ◌∙◌, subst, add-mul, arith}
+use Rattle.std.specs.List.{flat_map, AllByRecursion as All}
 use Rattle.std.proofs.lemmas.Nat.{mul-le}
 use Rattle.std.proofs.lemmas.List.FromFn.{length-range_with_len, length-map-range_with_len, get_or-map-range_with_len}
 use Rattle.std.proofs.ByRecursion.{All-weaker}
-use Rattle.std.proofs.lemmas.List.{length-append, length-map}
+use Rattle.std.proofs.lemmas.List.{length-append}
 use Rattle.std.proofs.lemmas.List.Sums.{sum_by-cons}
-use Rattle.std.proofs.lemmas.Bool.{ltb-false, or_parts}
-use Rattle.tariff.specs.declared.refusal.Refusal.{Refusal}
+use Rattle.std.proofs.lemmas.Bool.{ltb-false}
 use Rattle.tariff.specs.declared.rows.Sizes.{Sizes}
 use Rattle.tariff.specs.declared.rows.UnitRow.{UnitRow}
 use Rattle.tariff.specs.declared.rows.CostRow.{CostRow}
@@ -16,15 +15,14 @@ use Rattle.tariff.specs.Refusals.{first_of}
 use Rattle.tariff.proofs.Refused.{ok_tells}
 use Rattle.lines.specs.declared.cell.Cell.{Cell}
 use Rattle.lines.specs.declared.line.Line.{Line}
-use Rattle.lines.specs.Sizes.{outside, unfit}
+use Rattle.lines.specs.Sizes.{unfit}
 use Rattle.lines.specs.Lines.{zonal, schedule, look_up, line_of}
 use Rattle.lines.specs.Cells.{axis, areas, cells, whole_days, days_for, station_days}
-use Rattle.lines.specs.Totals.{cost_in, line_costs}
 use Rattle.sharing.specs.Rule.{Meaning, Lawful}
 use Rattle.bill_rules.specs.Bill.{pool, counted, share_of, station_of, recovered, credit_of, column, Figures, figures, figures_for, too_large_at, too_large, too_large_for, Lengths, bill_refusal, bill}
 use Rattle.bill_rules.specs.Laws.{LawfulRows}
 use Rattle.bill_rules.proofs.Agreement.{costs_allowed, accepted}
-use Rattle.bill_rules.proofs.Balance.{line_found, in_range, costs_once}
+use Rattle.bill_rules.proofs.Balance.{line_found, costs_once}
 use Rattle.bill_rules.proofs.Sums.{sum_by_mono}
 use Rattle.billing.specs.Work.{Upto, Sound}
 use Rattle.line_rows.specs.Writing.{stationed}

@@ -1,15 +1,13 @@
 -- How many bytes the rows of an accepted bill take.
-use Rattle.std.proofs.Common.{◌≡◌, ℕ, zero, suc, ◌+◌, ◌*◌, ◌^◌, ◌<◌, ◌≤◌, Bool, true, false, cond, List, [], ◌∷◌, ◌++◌, length, get_or, ℤ, decimal, sum_by, sum, ap, ◌∙◌, add-mul, arith, w64, SFits}
+use Rattle.std.proofs.Common.{ℕ, ◌+◌, ◌*◌, ◌^◌, ◌<◌, ◌≤◌, Bool, true, false, cond, List, [], ◌∷◌, ◌++◌, length, get_or, ℤ, decimal, sum, add-mul, arith, w64, SFits}
 use lib.Signed.{mag}
 use Rattle.std.specs.List.{range_with_len, flat_map, AllByRecursion as All}
-use Rattle.std.specs.Fmt.{signed_decimal}
 use Rattle.std.proofs.lemmas.Nat.{mul-le}
 use Rattle.std.proofs.lemmas.List.FromFn.{length-range_with_len}
 use Rattle.std.proofs.lemmas.Fmt.{length-decimal-le, length_signed_le}
 use Rattle.std.proofs.ByRecursion.{All-from_get_or}
 use Rattle.std.proofs.lemmas.List.{length-append}
 use Rattle.tariff.specs.declared.rows.Sizes.{Sizes}
-use Rattle.tariff.specs.Limits.{most_customers}
 use Rattle.lines.specs.Lines.{line_of}
 use Rattle.bill_rules.specs.Bill.{Figures}
 use Rattle.bill_rules.proofs.Agreement.{all_counting}

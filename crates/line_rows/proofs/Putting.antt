@@ -1,5 +1,5 @@
 -- The rows of a bill, put into a buffer.
-use Rattle.std.proofs.Common.{◌≡◌, ℕ, ◌+◌, ◌-◌, List, length, take, IfOk, Ok, Err, Option, Result, sym, refl, ap, ◌∙◌, subst, arith}
+use Rattle.std.proofs.Common.{◌≡◌, ℕ, ◌+◌, ◌-◌, List, length, take, IfOk, Ok, Err, Result, sym, ap, ◌∙◌, subst, arith}
 use Rattle.tariff.specs.declared.refusal.Refusal.{Refusal}
 use Rattle.tariff.specs.Refusals.{answer, unless}
 use Rattle.bill_rules.specs.Bill.{Figures}

@@ -7,9 +7,9 @@ ghost use Rattle.unit_file.specs.Reading.{contents_of};
 ghost use Rattle.unit_text.specs.Composing.{Inverse};
 ghost use Rattle.unit_text.specs.Lines.{listing};
 
-use anyhow::anyhow;
 use std::alloc::{AllocError, Global};
 use std::io::{Read, Write};
+use std::process::ExitCode;
 use tariff::Refusal;
 use unit_text::{Listing, list};
 
@@ -31,10 +31,10 @@ fn run(rt: &HostRuntime) -> anyhow::Result<Option<Refusal>> {
     Ok(listing.refusal)
 }
 
-fn main(rt: HostRuntime) -> anyhow::Result<()> {
+fn main(rt: HostRuntime) -> anyhow::Result<ExitCode> {
     let Some(refusal) = run(&rt)? else {
-        return Ok(());
+        return Ok(ExitCode::SUCCESS);
     };
     eprintln!(rt; "records: {refusal}")?;
-    Err(anyhow!("refused"))
+    Ok(ExitCode::FAILURE)
 }

@@ -8,7 +8,7 @@ use Rattle.tariff.specs.Limits.{contributors}
 use Rattle.tariff.specs.Refusals.{answer, unless}
 use Rattle.tariff.proofs.Refused.{ok_tells, err_tells}
 use Rattle.book_rules.specs.Machine.{Book, Pass, new_pass, new_book, open_refusal, admit_refusal, with_last_pass}
-use Rattle.book_rules.specs.Run.{State, Answer, gave, froze, stayed_open, refused, Outcome, outcome, with_marks, admit, hand_in, freeze, step, final, opened, closed, at_opening}
+use Rattle.book_rules.specs.Run.{State, Answer, gave, froze, stayed_open, refused, Outcome, outcome, with_marks, admit, hand_in, freeze, step, opened, at_opening}
 use Rattle.book.specs.declared.load.LoadReport.{LoadReport}
 use Rattle.book.specs.Load.{refusal_in, load_of, Done}
 use Rattle.book.specs.Told.{told}

@@ -7,10 +7,10 @@ ghost use Rattle.share_report.specs.Report.{report_of};
 ghost use Rattle.share_report.specs.Shown.{shown_report};
 ghost use Rattle.share.specs.Answer.{LeftShown};
 
-use anyhow::anyhow;
 use share_report::report::{Report, report_on};
 use std::alloc::{AllocError, Global};
 use std::io::Read;
+use std::process::ExitCode;
 
 // The answer to what was read.
 pub fn answer_to(heap: Global, input: &[u8]) -> Result<Report, AllocError>
@@ -33,9 +33,9 @@ fn run(rt: &HostRuntime) -> anyhow::Result<bool> {
     Ok(false)
 }
 
-fn main(rt: HostRuntime) -> anyhow::Result<()> {
+fn main(rt: HostRuntime) -> anyhow::Result<ExitCode> {
     if run(&rt)? {
-        return Ok(());
+        return Ok(ExitCode::SUCCESS);
     }
-    Err(anyhow!("refused"))
+    Ok(ExitCode::FAILURE)
 }

@@ -1,7 +1,6 @@
 -- A column that a rule has filled. Assumes nothing.
-use Rattle.std.proofs.Common.{◌≡◌, ℕ, List, ◌++◌, length, take, drop, Ok, Option, sym, ap, ◌∙◌}
+use Rattle.std.proofs.Common.{◌≡◌, ℕ, List, ◌++◌, length, take, drop, Ok, sym, ap, ◌∙◌}
 use Rattle.std.proofs.lemmas.List.{take_at}
-use Rattle.tariff.specs.declared.refusal.Refusal.{Refusal}
 use Rattle.tariff.specs.Refusals.{answer, unless}
 use Rattle.tariff.proofs.Refused.{ok_tells}
 use Rattle.sharing.specs.declared.Division.{Division}

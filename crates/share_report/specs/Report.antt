@@ -12,7 +12,7 @@
 --   empty_line   the line for a text without words
 --   refused_line the line for a pool and units that the rules refuse
 --   report_of    whether the text is accepted, and what is answered: the table, or one line
-use Rattle.std.specs.Prelude.{ℕ, Bool, true, false, cond, ◌||◌, List, [], ◌∷◌, ◌++◌, map, length, take, ℤ, Some, None, Ok, Err, codes, decimal, sum, Option, Result, nat_lt, slice_index}
+use Rattle.std.specs.Prelude.{ℕ, Bool, true, false, cond, ◌||◌, List, [], ◌∷◌, ◌++◌, map, length, take, ℤ, Some, None, Ok, Err, codes, decimal, Option, Result, nat_lt, slice_index}
 use Rattle.std.specs.List.{range_with_len, flat_map}
 use Rattle.std.specs.Fmt.{signed_decimal}
 use Rattle.tariff.specs.declared.refusal.Refusal.{Refusal}

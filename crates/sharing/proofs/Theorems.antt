@@ -7,7 +7,7 @@ use Rattle.std.proofs.lemmas.List.FromFn.{sum_by-map-range_with_len_more}
 use Rattle.std.proofs.lemmas.List.Sums.{sum_by_more, sum_by-cons, get_or-le-sum_by}
 use Rattle.std.proofs.lemmas.Bool.{cases_lt}
 use Rattle.sharing.specs.Rule.{Meaning, Lawful}
-use Rattle.sharing.specs.Rules.{down_at, down, reached, running_at, running}
+use Rattle.sharing.specs.Rules.{down_at, down, reached, running}
 use Rattle.sharing.specs.Theorems.{WithinThePool, LeftIsSmall, GivesAll, GivesNoMore, LawsOfSharing}
 use Rattle.sharing.specs.Laws.{down_lawful, reached_mono}
 

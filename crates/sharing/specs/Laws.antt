@@ -1,20 +1,20 @@
 -- The two rules keep the laws, and what the laws give.
-use Rattle.std.specs.Prelude.{◌≡◌, ℕ, zero, suc, ◌+◌, ◌-◌, ◌*◌, ◌/◌, ◌<◌, ◌≤◌, List, map, length, take, replicate, None, Ok, sum, slice_index, slice_index_or}
-use Rattle.std.proofs.Common.{sym, ap, ◌∙◌, inl, inr, div-mul-le_self, mul-add, add-mul, add-one, arith}
+use Rattle.std.specs.Prelude.{◌≡◌, ℕ, ◌+◌, ◌-◌, ◌*◌, ◌/◌, ◌<◌, ◌≤◌, List, map, length, take, replicate, None, Ok, sum, slice_index, slice_index_or}
+use Rattle.std.proofs.Common.{sym, ap, ◌∙◌, inl, inr, div-mul-le_self, mul-add, arith}
 use Rattle.std.proofs.Math.Nat.{div-zero, lt-div-mul-add, div-le_of_le-mul, mul-sub}
 use Rattle.std.specs.Float.Ieee.Nearest.{div_mono}
 use Rattle.std.specs.List.{range_with_len}
 use Rattle.std.proofs.lemmas.Nat.{mul-le}
-use Rattle.std.proofs.lemmas.List.FromFn.{length-map-range_with_len, get_or-map-range_with_len, sum_by-map-range_with_len_more, fill_by_all}
+use Rattle.std.proofs.lemmas.List.FromFn.{length-map-range_with_len, get_or-map-range_with_len, fill_by_all}
 use Rattle.std.proofs.lemmas.List.{ext_get_or, get_or-replicate, length-replicate}
-use Rattle.std.proofs.lemmas.List.Sums.{sum_by_more, get_or-le-sum_by}
+use Rattle.std.proofs.lemmas.List.Sums.{sum_by_more}
 use Rattle.std.proofs.lemmas.Bool.{cases_lt}
 use Rattle.std.proofs.lemmas.Bool.Decides.{nat_tests}
 use Rattle.tariff.specs.declared.refusal.Refusal.TheVariants.{RuleInput}
 use Rattle.tariff.specs.Limits.{most_customers, most_amount}
 use Rattle.tariff.specs.Refusals.{answer, unless}
 use Rattle.tariff.proofs.Refused.{ok_tells, none_tells}
-use Rattle.sharing.specs.Rule.{Meaning, Lawful, share_refusal}
+use Rattle.sharing.specs.Rule.{Lawful, share_refusal}
 use Rattle.sharing.specs.Rules.{down_at, down, reached, running_at, running}
 
 -- the part of some of all the units is at most the pool

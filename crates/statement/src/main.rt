@@ -4,10 +4,10 @@
 ghost use Rattle.std.specs.Prelude.{◌≡◌, IfOk};
 ghost use Rattle.statement_report.specs.Statement.{statement_of};
 
-use anyhow::anyhow;
 use statement_report::{MOST_BYTES, make_statement};
 use std::alloc::{AllocError, Global};
 use std::io::{Read, Write};
+use std::process::ExitCode;
 
 // What is printed: the text, and whether the file is accepted.
 #[derive(Drop)]
@@ -39,9 +39,9 @@ fn run(rt: &HostRuntime) -> anyhow::Result<bool> {
     Ok(printed.accepted)
 }
 
-fn main(rt: HostRuntime) -> anyhow::Result<()> {
+fn main(rt: HostRuntime) -> anyhow::Result<ExitCode> {
     if run(&rt)? {
-        return Ok(());
+        return Ok(ExitCode::SUCCESS);
     }
-    Err(anyhow!("refused"))
+    Ok(ExitCode::FAILURE)
 }

@@ -1,7 +1,7 @@
 -- What an answer tells of the refusal that it was made of. Assumes nothing.
-use Rattle.std.proofs.Common.{◌≡◌, ℕ, Bool, true, false, cond, Some, None, Ok, Err, Option, Result, refl, arith}
+use Rattle.std.proofs.Common.{◌≡◌, ℕ, Bool, true, false, cond, Some, None, Ok, Err, Option, refl, arith}
 use Rattle.tariff.specs.declared.refusal.Refusal.{Refusal}
-use Rattle.tariff.specs.Refusals.{answer, unless}
+use Rattle.tariff.specs.Refusals.{answer}
 
 -- an accepted call had no refusal, and answers its value
 pub ok_tells : {X : Type 0} (o : Option Refusal) (x y : X) → Ok x ≡ answer o y → (o ≡ None) × (x ≡ y)

@@ -1,4 +1,4 @@
-use Rattle.std.proofs.Common.{◌≡◌, sym, ap, ◌∙◌, arith}
+use Rattle.std.proofs.Common.{sym, ap, arith}
 use Rattle.tariff.specs.declared.refusal.Refusal.TheVariants.{FieldOutOfRange}
 use Rattle.tariff.specs.declared.rows.Sizes.{Sizes}
 use Rattle.lines.specs.Checked.{sizes_of}

@@ -1,4 +1,4 @@
-use Rattle.std.proofs.Common.{◌≡◌, ℕ, ◌+◌, ◌<◌, ◌≤◌, List, map, length, get_or, replicate, ℤ, pos, ◌+ℤ◌, ◌-ℤ◌, Some, None, Ok, sum_by, sum, sym, refl, ap, ◌∙◌, subst, arith}
+use Rattle.std.proofs.Common.{◌≡◌, ℕ, List, map, length, get_or, replicate, ℤ, pos, ◌+ℤ◌, ◌-ℤ◌, Some, Ok, sum_by, sum, sym, ap, ◌∙◌, subst, arith}
 use Rattle.std.specs.List.{range_with_len}
 use Rattle.std.proofs.lemmas.List.FromFn.{fill_by_all}
 use Rattle.std.proofs.lemmas.List.{get_or-replicate, length-replicate}
@@ -8,7 +8,7 @@ use Rattle.tariff.proofs.Refused.{ok_tells}
 use Rattle.lines.specs.Lines.{line_of}
 use Rattle.lines.specs.Cells.{cells, station_days}
 use Rattle.bill_rules.specs.declared.Remainders.{Remainders}
-use Rattle.bill_rules.specs.Bill.{share_of, station_of, credit_of, column, figures, too_large, told, column_after}
+use Rattle.bill_rules.specs.Bill.{station_of, credit_of, column, figures, too_large, told, column_after}
 use Rattle.bill_rules.proofs.Balance.{line_found, charges_balance, credits_balance}
 use Rattle.bill_rules.proofs.Agreement.{costs_allowed}
 use Rattle.billing.specs.Work.{Adds, Upto, charged_in}

@@ -1,4 +1,4 @@
-use Rattle.std.proofs.Common.{◌≡◌, ℕ, ◌≤◌, List, length, is_err, Err, sym, refl, ap, ◌∙◌, subst, arith}
+use Rattle.std.proofs.Common.{◌≡◌, ℕ, List, length, is_err, Err, sym, refl, ap, ◌∙◌, subst, arith}
 use Rattle.tariff.specs.Limits.{most_customers}
 use Rattle.std.proofs.lemmas.Result.{err_from_is_err_and, IfOk-from_err}
 use Rattle.tariff.specs.declared.rows.Sizes.{Sizes}

@@ -1,6 +1,6 @@
 use Rattle.std.proofs.Common.{◌≡◌, false, ap, ◌∙◌}
-use Rattle.book_rules.specs.Machine.{Book, valid}
-use Rattle.book_rules.specs.Run.{State, opened}
+use Rattle.book_rules.specs.Machine.{valid}
+use Rattle.book_rules.specs.Run.{State}
 use Rattle.book.specs.Shown.{open_book, pass_of}
 use Rattle.cached_pass.proofs.Void.{correct_idle, post_idle, cost_idle}
 use Rattle.cached_pass.proofs.try_cached_pass.Goals as goal

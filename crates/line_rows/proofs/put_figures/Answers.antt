@@ -1,4 +1,4 @@
-use Rattle.std.proofs.Common.{◌≡◌, ◌-◌, ◌≤◌, [], length, take, sym, ap, ◌∙◌, arith, w64, SFits, rules}
+use Rattle.std.proofs.Common.{◌-◌, ◌≤◌, [], length, take, ap, ◌∙◌, arith, w64, SFits, rules}
 use Rattle.tariff.specs.declared.refusal.Refusal.TheVariants.{TableUnfit}
 use Rattle.bill_rules.specs.Bill.{Lengths, bill}
 use Rattle.book_rules.specs.Machine.{book_bill, short_tables}

@@ -1,9 +1,9 @@
-use Rattle.std.proofs.Common.{◌≡◌, ℕ, ◌-◌, ◌<◌, ◌≤◌, List, ◌++◌, length, ℤ, pos, ◌-ℤ◌, sum, ap, ◌∙◌, arith, rules}
+use Rattle.std.proofs.Common.{◌≡◌, ℕ, ◌-◌, ◌++◌, ℤ, pos, ◌-ℤ◌, sum, arith, rules}
 use Rattle.std.proofs.lemmas.Int.{ints}
 use Rattle.sharing.specs.Rules.{down, running}
 use Rattle.sharing.specs.Laws.{down_lawful}
 use Rattle.sharing.proofs.Theorems.{laws_of_sharing}
-use Rattle.share_report.specs.Report.{sum_text, left_text, foot_of}
+use Rattle.share_report.specs.Report.{sum_text, left_text}
 use Rattle.share.specs.Answer.{LeftShown}
 use Rattle.share.proofs.answer_to.Goals as goal
 

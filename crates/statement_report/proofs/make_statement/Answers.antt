@@ -1,4 +1,4 @@
-use Rattle.std.proofs.Common.{ℕ, ◌-◌, true, false, List, length, take, sym, ap, ◌∙◌, arith, length-take}
+use Rattle.std.proofs.Common.{ℕ, ◌-◌, true, false, List, take, sym, ap, ◌∙◌, arith, length-take}
 use Rattle.line_rows.proofs.Putting.{front_is}
 use Rattle.statement_report.specs.Statement.{text_of, Told, refused_text}
 use Rattle.statement_report.proofs.Making.{made_text, refused_text_is, told_so}

@@ -1,7 +1,7 @@
-use Rattle.std.proofs.Common.{Err, sym, ap, subst}
+use Rattle.std.proofs.Common.{subst}
 use Rattle.book.specs.Shown.{frozen_book}
 use Rattle.statement_report.specs.Statement.{Makes}
-use Rattle.statement_report.proofs.Making.{settled_lines, not_settled}
+use Rattle.statement_report.proofs.Making.{settled_lines}
 use Rattle.statement_report.proofs.put_statement.Goals as goal
 
 pub returns : goal.returns

@@ -1,4 +1,4 @@
-use Rattle.std.proofs.Common.{◌<◌, ◌++◌, codes, decimal, ◌∙◌, subst, arith, rules}
+use Rattle.std.proofs.Common.{◌<◌, ◌++◌, codes, decimal, ◌∙◌, subst, arith}
 use Rattle.std.proofs.lemmas.Fmt.{length-decimal-le}
 use Rattle.line_rows.specs.Writing.{Wrote}
 use Rattle.line_rows.proofs.Texts.{written, never_refused, wrote_more}

@@ -1,10 +1,10 @@
-use Rattle.std.proofs.Common.{◌≡◌, [], length, vec_items, sym, ap, ◌∙◌, arith}
+use Rattle.std.proofs.Common.{[], length, vec_items, ap, ◌∙◌, arith}
 use Rattle.std.proofs.lemmas.List.{with_items_is}
 use Rattle.bill_rules.specs.Bill.{Lengths}
 use Rattle.book_rules.specs.Machine.{book_bill}
 use Rattle.book_rules.specs.Run.{Outcome}
 use Rattle.book.specs.Shown.{frozen_book}
-use Rattle.bill_report.proofs.Answering.{figured, figured_same, billed_tells, refused_tells, lengths}
+use Rattle.bill_report.proofs.Answering.{figured_same, billed_tells, refused_tells, lengths}
 use Rattle.bill_report.proofs.report.figures_by.Goals as goal
 
 pub returns-in-Ok : goal.returns-in-Ok

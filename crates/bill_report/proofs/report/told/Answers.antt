@@ -1,4 +1,4 @@
-use Rattle.std.proofs.Common.{◌≡◌, ℕ, Bool, true, List, Ok, vec_items, sym, ap, ◌∙◌}
+use Rattle.std.proofs.Common.{◌≡◌, ℕ, Bool, true, List, vec_items, sym, ap, ◌∙◌}
 use Rattle.lines.specs.Totals.{line_costs}
 use Rattle.bill_report.specs.Report.{table_of, by_bill}
 use Rattle.bill_report.specs.Shown.{shown_figures, shown_figured}

@@ -1,4 +1,4 @@
-use Rattle.std.proofs.Common.{◌≡◌, sym, ◌∙◌}
+use Rattle.std.proofs.Common.{sym, ◌∙◌}
 use Rattle.book_rules.specs.Run.{opened}
 use Rattle.book.specs.Shown.{open_book, pass_of}
 use Rattle.bill_report.proofs.Settles.{admitted, load_refused, load_done}

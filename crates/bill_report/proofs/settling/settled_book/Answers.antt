@@ -1,4 +1,3 @@
-use Rattle.std.proofs.Common.{◌≡◌}
 use Rattle.book_rules.specs.Run.{opened, closed}
 use Rattle.book.specs.Shown.{open_book, frozen_book}
 use Rattle.bill_report.proofs.Settles.{not_loaded, frozen_after_is, not_frozen}

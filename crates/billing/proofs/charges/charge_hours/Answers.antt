@@ -1,4 +1,4 @@
-use Rattle.std.proofs.Common.{◌≡◌, ℕ, ◌^◌, length, sym, refl, ap, ◌∙◌, subst, arith}
+use Rattle.std.proofs.Common.{ℕ, sym, refl, ◌∙◌, subst, arith}
 use Rattle.tariff.specs.Limits.{hours_of_day}
 use Rattle.lines.specs.Lines.{timed}
 use Rattle.lines.specs.Cells.{cell, hours}

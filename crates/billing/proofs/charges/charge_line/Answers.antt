@@ -1,4 +1,4 @@
-use Rattle.std.proofs.Common.{◌≡◌, ℕ, ◌^◌, length, sym, refl, ap, ◌∙◌, subst, arith}
+use Rattle.std.proofs.Common.{ℕ, sym, refl, ◌∙◌, subst, arith}
 use Rattle.lines.specs.Lines.{zonal}
 use Rattle.lines.specs.Cells.{day_cells, areas}
 use Rattle.bill_rules.specs.Bill.{share_of, stranded_of}

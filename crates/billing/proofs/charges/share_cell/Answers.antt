@@ -1,10 +1,9 @@
-use Rattle.std.proofs.Common.{◌≡◌, ◌<◌, length, get_or, None, sum, sym, refl, ap, ◌∙◌, subst, arith}
+use Rattle.std.proofs.Common.{◌≡◌, ◌<◌, length, get_or, sum, sym, refl, ap, ◌∙◌, subst, arith}
 use Rattle.std.specs.List.{AllByRecursion as All}
 use Rattle.tariff.specs.declared.rows.UnitRow.{UnitRow}
 use Rattle.sharing.specs.Rule.{share_refusal}
 use Rattle.bill_rules.specs.Bill.{units_in, counted, shares}
 use Rattle.billing.proofs.Pools.{not_refused, no_units_share, share_within, stranded_all, stranded_shared}
-use Rattle.billing.proofs.charges.share_cell.Given as given
 use Rattle.billing.proofs.charges.share_cell.Goals as goal
 
 pub fill_units-requires : goal.fill_units-requires

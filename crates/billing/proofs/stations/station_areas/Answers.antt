@@ -1,14 +1,13 @@
-use Rattle.std.proofs.Common.{◌≡◌, ℕ, ◌-◌, ◌*◌, ◌^◌, ◌<◌, ◌≤◌, [], ◌∷◌, map, length, is_err, None, Err, sym, refl, ap, ◌∙◌, subst, arith}
+use Rattle.std.proofs.Common.{◌≡◌, ◌-◌, ◌*◌, ◌^◌, map, is_err, None, Err, sym, refl, ap, ◌∙◌, subst, arith}
 use Rattle.std.specs.List.{range_with_len, flat_map}
 use Rattle.std.proofs.lemmas.Result.{err_from_is_err_and, IfOk-from_err}
-use Rattle.std.proofs.lemmas.Bool.{true≢false}
 use Rattle.tariff.specs.Refusals.{first_of, answer}
 use Rattle.tariff.proofs.Refused.{ok_tells, err_tells}
 use Rattle.lines.specs.Lines.{zonal}
-use Rattle.lines.specs.Cells.{cell, whole_days}
+use Rattle.lines.specs.Cells.{whole_days}
 use Rattle.bill_rules.specs.Bill.{too_large_at}
 use Rattle.billing.specs.Work.{Credited}
-use Rattle.billing.proofs.Credits.{map_as_joined, joined_none, joined_first, before_more, credited_none, credited_more, credited_all}
+use Rattle.billing.proofs.Credits.{joined_none, joined_first, before_more, credited_none, credited_more, credited_all}
 use Rattle.billing.proofs.Walks.{end_le, first_le, on_it, axis_is}
 use Rattle.billing.proofs.stations.station_areas.Goals as goal
 

@@ -1,4 +1,4 @@
-use Rattle.std.proofs.Common.{◌≡◌, ◌+◌, ◌++◌, drop, replicate}
+use Rattle.std.proofs.Common.{◌≡◌, ◌++◌, drop, replicate}
 use Rattle.book.proofs.marks.clear.Given as goal
 
 abbrev pub invariant-loop-m : goal.invariant-loop-m

@@ -1,4 +1,4 @@
-use Rattle.std.proofs.Common.{◌+◌, ◌^◌, ◌<◌, ◌≤◌, length, decimal, arith, rules}
+use Rattle.std.proofs.Common.{◌^◌, ◌<◌, decimal, arith, rules}
 use Rattle.std.proofs.lemmas.Fmt.{length-decimal-le}
 use Rattle.line_rows.proofs.Texts.{written, never_refused}
 use Rattle.line_rows.proofs.parts.write_number.Goals as goal

@@ -1,4 +1,4 @@
-use Rattle.std.proofs.Common.{◌^◌, sum, ap, ◌∙◌, mul-add, arith, take_all}
+use Rattle.std.proofs.Common.{sum, ap, ◌∙◌, arith, take_all}
 use Rattle.std.proofs.lemmas.List.Sums.{sum_by_more}
 use Rattle.line_rows.proofs.rows.column_sum.Goals as goal
 

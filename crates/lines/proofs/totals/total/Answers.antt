@@ -1,4 +1,4 @@
-use Rattle.std.proofs.Common.{◌≡◌, true, false, ap, ◌∙◌, arith, take_all, rules}
+use Rattle.std.proofs.Common.{true, false, ap, ◌∙◌, arith, take_all, rules}
 use Rattle.lines.specs.Totals.{part, total_in}
 use Rattle.lines.proofs.Steps.{sum_next, part_is}
 use Rattle.lines.proofs.totals.total.Goals as goal

@@ -1,4 +1,4 @@
-use Rattle.std.proofs.Common.{◌≡◌, ◌+◌, [], ◌∷◌, ◌++◌, vec_items, vec_len, sym, ap, ◌∙◌, arith}
+use Rattle.std.proofs.Common.{◌+◌, vec_items, vec_len, sym, ap, ◌∙◌, arith}
 use Rattle.text.specs.Words.{words}
 use Rattle.share_report.specs.Numbers.{after, read_words}
 use Rattle.share_report.proofs.NumberLaws.{one_more}

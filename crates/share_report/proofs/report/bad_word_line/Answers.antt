@@ -1,4 +1,4 @@
-use Rattle.std.proofs.Common.{◌≡◌, ◌++◌, string_bytes, codes, decimal, ap, ◌∙◌}
+use Rattle.std.proofs.Common.{◌++◌, string_bytes, codes, decimal, ap, ◌∙◌}
 use Rattle.text.specs.Words.{fault_words}
 use Rattle.share_report.specs.Report.{shown_word}
 use Rattle.share_report.proofs.TextLaws.{joined_line}

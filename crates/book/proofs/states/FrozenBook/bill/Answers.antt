@@ -1,10 +1,9 @@
-use Rattle.std.proofs.Common.{◌≡◌, ℕ, ◌-◌, ◌≤◌, ltb, length, Result, sym, refl, ap, ◌∙◌, arith}
+use Rattle.std.proofs.Common.{◌-◌, ltb, length, Result, sym, refl, ap, ◌∙◌, arith}
 use Rattle.std.proofs.lemmas.Bool.{or_parts, ltb-false}
 use Rattle.tariff.specs.declared.refusal.Refusal.{Refusal}
 use Rattle.bill_rules.specs.Bill.{Figures, Lengths, told, column_after}
-use Rattle.book_rules.specs.Run.{Answer, Outcome, closed, told_bill}
+use Rattle.book_rules.specs.Run.{Answer, closed, told_bill}
 use Rattle.book.specs.Shown.{frozen_book}
-use Rattle.book.specs.Told.{told_figures}
 use Rattle.book.proofs.Bills.{counted_bill, short_bill, told_figures_is}
 use Rattle.book.proofs.states.FrozenBook.bill.Goals as goal
 

@@ -1,4 +1,4 @@
-use Rattle.std.proofs.Common.{true, false, sym, refl, ap, ◌∙◌}
+use Rattle.std.proofs.Common.{true, false, refl}
 use Rattle.tariff.specs.declared.refusal.Refusal.TheVariants.{FieldOutOfRange}
 use Rattle.book_rules.specs.Run.{opened}
 use Rattle.book.specs.declared.load.RefusedBy.TheVariants.{Book}

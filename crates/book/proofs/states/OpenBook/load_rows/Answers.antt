@@ -1,4 +1,4 @@
-use Rattle.std.proofs.Common.{◌≡◌, ℕ, ◌+◌, ◌-◌, ◌<◌, length, Some, sym, ap, ◌∙◌, subst, arith}
+use Rattle.std.proofs.Common.{ℕ, ◌+◌, ◌-◌, ◌<◌, length, Some, sym, ap, ◌∙◌, subst, arith}
 use Rattle.unit_file.specs.Records.{item_of}
 use Rattle.unit_file.proofs.Walk.{advances}
 use Rattle.book_rules.specs.Run.{opened}

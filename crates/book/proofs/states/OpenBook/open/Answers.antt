@@ -1,5 +1,4 @@
-use Rattle.std.proofs.Common.{refl, arith, rules}
-use Rattle.std.proofs.lemmas.Bool.Decides.{nat_tests}
+use Rattle.std.proofs.Common.{refl, rules}
 use Rattle.lines.specs.Checked.{sizes_of}
 use Rattle.lines.specs.Sizes.{sizes_refusal, unfit}
 use Rattle.tariff.specs.declared.refusal.Refusal.TheVariants.{SizeOutOfRange}
