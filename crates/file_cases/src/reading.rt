@@ -118,7 +118,7 @@ fn places(rt: HostRuntime) -> Result<(), Fail> {
     }
     assert_eq!(rt; reader.place(), 12);
     match reader.next()? {
-        Some(Record::Note(note)) => assert!(rt; note == b"Hi"),
+        Some(Record::Note(note)) => assert!(rt; note == b"Hi".as_slice()),
         _ => return Err(Fail::new("a note stands behind it")),
     }
     assert_eq!(rt; reader.place(), 17);

@@ -14,10 +14,10 @@ fn listed_and_composed(rt: HostRuntime) -> Result<(), Fail> {
     assert_eq!(rt; listing.refusal, None);
     let text =
         b"book customers 3 days 1 subzones 1\nunits customer 0 day 1 hour 1 subzone 1 use 0 quantity 600\ncost line 3 subzone 1 day 1 hour 1 amount 1000\nnote !\n";
-    assert!(rt; listing.text.as_slice() == text);
+    assert!(rt; listing.text.as_slice() == text.as_slice());
     match compose(rt.alloc(), listing.text.as_slice())? {
         Ok(file) => {
-            assert!(rt; file.as_slice() == FILE);
+            assert!(rt; file.as_slice() == FILE.as_slice());
             Ok(())
         },
         Err(_) => Err(Fail::new("the listing is composed")),
@@ -30,7 +30,7 @@ fn a_fault_ends_the_listing(rt: HostRuntime) -> Result<(), Fail> {
     assert_eq!(rt; listing.refusal, Some(Refusal::RecordLength { place: 8 }));
     let text =
         b"book customers 3 days 1 subzones 1\nrefusal 17: a record is cut short, has length 0, or has not the length of its kind (at byte 8)\n";
-    assert!(rt; listing.text.as_slice() == text);
+    assert!(rt; listing.text.as_slice() == text.as_slice());
     Ok(())
 }
 
