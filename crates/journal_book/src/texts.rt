@@ -36,7 +36,7 @@ pub(crate) fn push_reply(text: &mut Vec<u8>, reply: Reply, out: &[u8]) -> Result
     requires { Within reply (length out.now) }
     ensures { text.new.items ≡ (if is_ok result then text.old.items ++ reply_words out.now reply else text.old.items) }
 {
-    let heap = text.allocator();
+    let heap = *text.allocator();
     match reply {
         Reply::Pass(number) => push_string(text, format!(in heap; "pass {number}\n")?),
         Reply::Removed => text.extend_from_slice(b"removed\n"),

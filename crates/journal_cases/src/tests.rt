@@ -82,7 +82,7 @@ fn answers_while_open(rt: HostRuntime) -> Result<(), Fail> {
     let text = replayed(rt.alloc(), &commands)?;
     assert!(rt;
         text.as_slice()
-            == b"refused 3\npass 1\nrow 0\nrow 1\nrefused 10\nno pass 2\ncorrected\nrow 0\nrefused 12\nnot offered\nhanded in\nno pass 1\n"
+            == b"refused 3\npass 1\nrow 0\nrow 1\nrefused 10\nno pass 2\ncorrected\nrow 0\nrefused 12\nnot offered\nhanded in\nno pass 1\n".as_slice()
     );
     Ok(())
 }
@@ -119,7 +119,7 @@ fn answers_while_frozen(rt: HostRuntime) -> Result<(), Fail> {
     let text = replayed(rt.alloc(), &commands)?;
     assert!(rt;
         text.as_slice()
-            == b"pass 1\nrow 0\nrow 1\nrow 0\nremoved\nfrozen\nnot offered\nrefused 7\nno pass 1\nrefused 8\n3 0 250 0 0\n3 1 750 0 0\n3 sum 1000 0 0 0 0 0\nopen\npass 2\n"
+            == b"pass 1\nrow 0\nrow 1\nrow 0\nremoved\nfrozen\nnot offered\nrefused 7\nno pass 1\nrefused 8\n3 0 250 0 0\n3 1 750 0 0\n3 sum 1000 0 0 0 0 0\nopen\npass 2\n".as_slice()
     );
     Ok(())
 }

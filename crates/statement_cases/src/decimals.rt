@@ -131,7 +131,7 @@ fn check_number(rt: &impl Abort, number: Number, digits: &[u8]) -> Result<(), Fa
 #[test]
 fn numbers(rt: HostRuntime) -> Result<(), Fail> {
     for case in &NUMBERS {
-        check_number(&rt, Number::Unsigned(case.0), case.1).note(case.0)?;
+        check_number(&rt, Number::Unsigned(case.0), case.1)?;
     }
     Ok(())
 }
@@ -139,7 +139,7 @@ fn numbers(rt: HostRuntime) -> Result<(), Fail> {
 #[test]
 fn signed_numbers(rt: HostRuntime) -> Result<(), Fail> {
     for case in &SIGNED {
-        check_number(&rt, Number::Signed(case.0), case.1).note(case.0)?;
+        check_number(&rt, Number::Signed(case.0), case.1)?;
     }
     Ok(())
 }

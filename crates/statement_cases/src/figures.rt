@@ -412,9 +412,9 @@ fn all_customers(rt: HostRuntime) -> Result<(), Fail> {
     let answer = make_statement(&file[0..length], &mut out)?;
     assert!(rt; answer.accepted);
     assert_eq!(rt; answer.length, 2982);
-    assert!(rt; &out[0..20] == b"6 0 1 0 0\n6 1 1 0 0\n");
-    assert!(rt; &out[90..111] == b"6 9 1 0 0\n6 10 1 0 0\n");
-    assert!(rt; &out[1079..1102] == b"6 99 1 0 0\n6 100 1 0 0\n");
-    assert!(rt; &out[2950..2983] == b"6 255 1 0 0\n6 sum 256 0 0 0 0 0\n.");
+    assert!(rt; &out[0..20] == b"6 0 1 0 0\n6 1 1 0 0\n".as_slice());
+    assert!(rt; &out[90..111] == b"6 9 1 0 0\n6 10 1 0 0\n".as_slice());
+    assert!(rt; &out[1079..1102] == b"6 99 1 0 0\n6 100 1 0 0\n".as_slice());
+    assert!(rt; &out[2950..2983] == b"6 255 1 0 0\n6 sum 256 0 0 0 0 0\n.".as_slice());
     Ok(())
 }

@@ -191,7 +191,6 @@ pub(crate) fn check_case(rt: &impl Abort, case: Case) -> Result<(), Fail> {
         case.accepted,
         case.text,
     )
-    .note(case.what)
 }
 
 pub(crate) fn check_cases(rt: &impl Abort, cases: &[Case]) -> Result<(), Fail> {

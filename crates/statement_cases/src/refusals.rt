@@ -49,10 +49,10 @@ fn check_sizes(
 #[test]
 fn sizes(rt: HostRuntime) -> Result<(), Fail> {
     for (i, sizes) in NO_SIZES.iter().enumerate() {
-        check_sizes(&rt, *sizes, false, b"refused 1\n", b"refused 1\n").note(i)?;
+        check_sizes(&rt, *sizes, false, b"refused 1\n", b"refused 1\n")?;
     }
     for (i, sizes) in SIZES.iter().enumerate() {
-        check_sizes(&rt, *sizes, true, b"", b"refused 17\n").note(i)?;
+        check_sizes(&rt, *sizes, true, b"", b"refused 17\n")?;
     }
     Ok(())
 }
@@ -83,10 +83,10 @@ const UNITS: [Units; 5] = [
 #[test]
 fn fields_of_unit_rows(rt: HostRuntime) -> Result<(), Fail> {
     for (i, row) in NO_UNITS.iter().enumerate() {
-        check_rows(&rt, (3, 2, 2), &[*row], &[], false, b"refused 8\n").note(i)?;
+        check_rows(&rt, (3, 2, 2), &[*row], &[], false, b"refused 8\n")?;
     }
     for (i, row) in UNITS.iter().enumerate() {
-        check_rows(&rt, (3, 2, 2), &[*row], &[], true, b"").note(i)?;
+        check_rows(&rt, (3, 2, 2), &[*row], &[], true, b"")?;
     }
     Ok(())
 }
@@ -144,10 +144,10 @@ const COSTS: [(Cost, &[u8]); 7] = [
 #[test]
 fn fields_of_cost_rows(rt: HostRuntime) -> Result<(), Fail> {
     for (i, row) in NO_COSTS.iter().enumerate() {
-        check_rows(&rt, (3, 2, 2), &[], &[*row], false, b"refused 8\n").note(i)?;
+        check_rows(&rt, (3, 2, 2), &[], &[*row], false, b"refused 8\n")?;
     }
     for (i, case) in COSTS.iter().enumerate() {
-        check_rows(&rt, (3, 2, 2), &[], &[case.0], true, case.1).note(i)?;
+        check_rows(&rt, (3, 2, 2), &[], &[case.0], true, case.1)?;
     }
     Ok(())
 }
@@ -536,7 +536,7 @@ const FORMS: [(&str, &[u8], &[u8]); 41] = [
 #[test]
 fn forms(rt: HostRuntime) -> Result<(), Fail> {
     for case in &FORMS {
-        check_file(&rt, case.1, false, case.2).note(case.0)?;
+        check_file(&rt, case.1, false, case.2)?;
     }
     check_file(&rt, b"\x01\0\x05\0\0\x03\x01\x01\0\x03\x03 ~", true, b"")
 }
@@ -576,8 +576,6 @@ fn check_full(
     let mut file = [0; 40_000];
     let length = write_full(&mut file, units, costs, last)?;
     check_front(rt, &file, length, accepted, text)
-        .note(units)
-        .note(costs)
 }
 
 const TABLES_FULL: &[u8] = b"6 0 256 0 0\n6 1 256 0 0\n6 sum 512 0 0 0 0 0\n";

@@ -8,4 +8,4 @@ pub returns : goal.returns
 returns c ld lr =
     let old = shown_session c.args.session in
     subst (λ line. Answers (line_step (rules_for down running ld lr) old line) old (shown_session c.answer.result.0) (vec_items c.args.text.now) (vec_items c.answer.new.text) c.answer.result.1)
-    c.without-end.ensures (c.answer.ensures.answers ld lr)
+    c.without_end.ensures (c.answer.ensures.answers ld lr)

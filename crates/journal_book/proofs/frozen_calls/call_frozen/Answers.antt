@@ -23,7 +23,7 @@ pub returns-in-TakeIn : goal.returns-in-TakeIn
 returns-in-TakeIn g c =
     let old = frozen_journal c.args.book c.args.units.now c.args.costs.now c.args.marks.now (vec_items c.args.passes.now) in
     record {
-      answers = λ ld lr. answers_as c.in-TakeIn.is (c.take-in-reply.ensures _ _ c.args.units.now c.args.costs.now);
+      answers = λ ld lr. answers_as c.in-TakeIn.is (c.take_in-reply.ensures _ _ c.args.units.now c.args.costs.now);
       out = λ ld lr.
           let rules = rules_for (g.D.SharingRule.meaning c.args.down.now) (g.R.SharingRule.meaning c.args.running.now) ld lr in
           no_rows_out c.args.out.now c.args.command (TakeIn c.in-TakeIn.pass) (step_journal rules old c.args.command).reply (λ s. refl) c.in-TakeIn.is;
@@ -34,7 +34,7 @@ returns-in-TakeIn g c =
 pub returns-in-Bill : goal.returns-in-Bill
 returns-in-Bill g c =
     let old = frozen_journal c.args.book c.args.units.now c.args.costs.now c.args.marks.now (vec_items c.args.passes.now) in
-    let told = c.bill-by-reply.ensures in
+    let told = c.bill_by-reply.ensures in
     record {
       answers = λ ld lr. answers_as c.in-Bill.is (record { leaves = refl; replies = told.answers ld lr });
       out = λ ld lr.
@@ -44,10 +44,10 @@ returns-in-Bill g c =
       means = told.means;
     }
 
-pub returns-in-default : goal.returns-in-default
-returns-in-default g c =
+pub returns-in_default : goal.returns-in_default
+returns-in_default g c =
     let old = frozen_journal c.args.book c.args.units.now c.args.costs.now c.args.marks.now (vec_items c.args.passes.now) in
-    let other = only_open c.args.command c.in-default.not-Reopen c.in-default.not-TakeIn c.in-default.not-Bill in
+    let other = only_open c.args.command c.in_default.not-Reopen c.in_default.not-TakeIn c.in_default.not-Bill in
     record {
       answers = λ ld lr.
           let rules = rules_for (g.D.SharingRule.meaning c.args.down.now) (g.R.SharingRule.meaning c.args.running.now) ld lr in

@@ -15,7 +15,7 @@ returns-in-Ok c rules room units costs =
     let asked = Admit c.args.contributor in
     let before = vec_items c.args.passes.now in
     let stepped = c.in-Ok.ensures units costs in
-    let kept = pass_kept before (vec_items c.reserve.new.self) (vec_items c.push-reserved.new.self) c.in-Ok.pass c.in-ok-reserve.ensures.items c.push-reserved.ensures.items in
+    let kept = pass_kept before (vec_items c.reserve.new.self) (vec_items c.push_reserved.new.self) c.in-Ok.pass c.in_ok-reserve.ensures.items c.push_reserved.ensures.items in
     let state = opened (open_book c.admit.new.self) units costs c.admit.new.marks in
     record {
       leaves = ap (λ (l : List (Option Pass)). let j : Journal = record { state = state; held = l } in j) kept ∙ sym (ap (λ (o : Outcome). (after_call asked (shown_passes before) o).journal) stepped);

@@ -20,22 +20,22 @@ returns-in-Remove c rules room =
 
 pub returns-in-HandIn : goal.returns-in-HandIn
 returns-in-HandIn c rules room =
-    answers_as c.in-HandIn.is (c.hand-in.ensures rules room c.args.units.now c.args.costs.now)
+    answers_as c.in-HandIn.is (c.hand_in.ensures rules room c.args.units.now c.args.costs.now)
 
 pub returns-in-Post : goal.returns-in-Post
 returns-in-Post c rules room =
     answers_with (open_journal c.args.book c.args.units.now c.args.costs.now c.args.marks.now)
-    (open_journal c.post.new.book c.post.new.units c.args.costs.now c.args.marks.now) c.in-Post.is c.as-slice.ensures.value
+    (open_journal c.post.new.book c.post.new.units c.args.costs.now c.args.marks.now) c.in-Post.is c.as_slice.ensures.value
     (c.post.ensures rules room c.args.costs.now)
 
 pub returns-in-Cost : goal.returns-in-Cost
 returns-in-Cost c rules room =
     answers_with (open_journal c.args.book c.args.units.now c.args.costs.now c.args.marks.now)
-    (open_journal c.add-cost.new.book c.args.units.now c.add-cost.new.costs c.args.marks.now) c.in-Cost.is c.as-slice-in-Cost.ensures.value
-    (c.add-cost.ensures rules room c.args.units.now)
+    (open_journal c.add_cost.new.book c.args.units.now c.add_cost.new.costs c.args.marks.now) c.in-Cost.is c.as_slice-in-Cost.ensures.value
+    (c.add_cost.ensures rules room c.args.units.now)
 
 pub returns-in-Correct : goal.returns-in-Correct
 returns-in-Correct c rules room =
     answers_with (open_journal c.args.book c.args.units.now c.args.costs.now c.args.marks.now)
-    (open_journal c.args.book c.correct.new.units c.args.costs.now c.args.marks.now) c.in-Correct.is c.as-slice-in-Correct.ensures.value
+    (open_journal c.args.book c.correct.new.units c.args.costs.now c.args.marks.now) c.in-Correct.is c.as_slice-in-Correct.ensures.value
     (c.correct.ensures rules room c.args.costs.now)

@@ -8,8 +8,8 @@ returns c =
     let n = c.args.number in
     let inside : n - 1 < length xs = omega (arith, c.args.passes.now.ok.0) in
     let place = c.take.result in
-    let lent = c.index-mut.result.now in
-    let at = c.take.ensures.value ∙ c.index-mut.ensures.value in
+    let lent = c.index_mut.result.now in
+    let at = c.take.ensures.value ∙ c.index_mut.ensures.value in
     record {
       value = held_at xs n c.if-number-eq0.false inside place lent at;
       after = after_taking xs n c.if-number-eq0.false inside place lent at c.take.new.self c.take.ensures.after;

@@ -48,7 +48,7 @@ loop-command-preserved g c =
     let inv = c.loop-command.invariant in
     let told = c.tell-next.ensures in
     let more : take (i + 1) commands ≡ take i commands ++ command ∷ [] = take_more commands i (Admit 0) c.loop-command-test.true in
-    let step = turn inv.1 inv.2 (length c.loop-command.out) inv.0 command j next t t' c.tell-next.result.1 (Ok tt) c.in-default.is told.answers in
+    let step = turn inv.1 inv.2 (length c.loop-command.out) inv.0 command j next t t' c.tell-next.result.1 (Ok tt) c.in_default.is told.answers in
     let d = g.D.SharingRule.meaning c.args.down.now in
     let r = g.R.SharingRule.meaning c.args.running.now in (
       c.tell-next.auto.out ∙ inv.0,

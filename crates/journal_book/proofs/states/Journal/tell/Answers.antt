@@ -3,8 +3,8 @@ use Rattle.journal_book.specs.Shown.{shown_journal, rules_for}
 use Rattle.journal_book.proofs.Telling.{rows_inside, tells, no_memory}
 use Rattle.journal_book.proofs.states.Journal.tell.Goals as goal
 
-pub push-reply-told-requires : goal.push-reply-told-requires
-push-reply-told-requires g c =
+pub push_reply-told-requires : goal.push_reply-told-requires
+push_reply-told-requires g c =
     let d = g.D.SharingRule.meaning c.args.down.now in
     let r = g.R.SharingRule.meaning c.args.running.now in
     let made = c.make-next.ensures in
@@ -21,7 +21,7 @@ returns-in-Ok g c =
     record {
       answers = λ ld lr.
           tells (rules_for d r ld lr) c.args.command (shown_journal c.args.self) (shown_journal c.make-next.result.0) c.args.out.now c.make-next.new.out c.make-next.result.1
-          (made.answers ld lr) (made.out ld lr) c.in-Ok.reply c.in-Ok.is (vec_items c.args.text.now) (vec_items c.push-reply-told.new.text) c.push-reply-told.result c.push-reply-told.ensures;
+          (made.answers ld lr) (made.out ld lr) c.in-Ok.reply c.in-Ok.is (vec_items c.args.text.now) (vec_items c.push_reply-told.new.text) c.push_reply-told.result c.push_reply-told.ensures;
       lawful = made.lawful;
       means = made.means;
     }
