@@ -1,5 +1,5 @@
 -- What a line is answered, from what the calls of a journal say.
-use Rattle.std.proofs.Common.{◌≡◌, ℕ, zero, suc, cond, ◌⊎◌, List, [], ◌∷◌, ◌++◌, take, is_ok, Some, None, Ok, Err, codes, Option, Result, sym, refl, ap, ◌∙◌, subst, inl, inr, arith}
+use Rattle.std.proofs.Common.{◌≡◌, ℕ, zero, suc, cond, ◌⊎◌, List, [], ◌∷◌, ◌++◌, take, is_ok, Ok, Err, codes, Option, Result, sym, refl, ap, ◌∙◌, subst, inl, inr}
 use lib.Seq.{take-nil}
 use Rattle.std.specs.declared.alloc.AllocError.{AllocError}
 use Rattle.std.proofs.lemmas.List.{append-nil}
@@ -16,7 +16,7 @@ use Rattle.journal_book.specs.Replay.{Replays}
 use Rattle.journal_book.specs.Shown.{opening_journal}
 use Rattle.journal_book.specs.Texts.{refusal_text, reply_text, replay_text}
 use Rattle.journal_session.specs.declared.states.LineFault.{LineFault}
-use Rattle.journal_session.specs.Session.{Sitting, refused, running, Answered, opened_by, by_call, Told, told_by, Interrupted, Answers}
+use Rattle.journal_session.specs.Session.{Sitting, refused, running, Answered, opened_by, by_call, Told, told_by, Answers}
 
 -- a text was appended, or there was no memory for it
 pub telling : (a : Answered) (text : List ℕ) (old new : Sitting) (before behind : List ℕ) (r : Result (Unit {0}) AllocError) (out : Result (Result (Unit {0}) LineFault) AllocError) →
