@@ -1,6 +1,6 @@
 -- Rows that agree on a line are billed alike.
 use Rattle.std.proofs.Common.{◌≡◌, ℕ, ◌*◌, ◌/◌, ◌<◌, Bool, true, false, cond, not, ◌&&◌, ◌||◌, eqb, ltb, leb, List, [], ◌∷◌, ◌++◌, map, length, get_or, ℤ, pos, ◌-ℤ◌, is_some, Some, None, Ok, sum_by, sum, Option, sym, refl, ap, ◌∙◌, subst, ⊎_elim, arith}
-use Rattle.std.specs.List.{range_with_len, flat_map, AllByRecursion as All}
+use Rattle.std.specs.List.{range_with_len, flat_map, AllByRecursion}
 use Rattle.std.proofs.ByRecursion.{All-weaker, All-append, All-from_get_or}
 use Rattle.std.proofs.lemmas.List.FromFn.{length-range_with_len, get_or-range_with_len}
 use Rattle.std.proofs.lemmas.Bool.{or_parts, or_cases, eqb-true, false≢true}
@@ -32,47 +32,47 @@ use Rattle.bill_rules.proofs.Balance.{line_found, in_range, right_fields, hour_o
 
 -- lists
 
-all_split : {X : Type 0} (P : X → Type 0) (xs ys : List X) → All P (xs ++ ys) → All P xs × All P ys
+all_split : {X : Type 0} (P : X → Type 0) (xs ys : List X) → AllByRecursion P (xs ++ ys) → AllByRecursion P xs × AllByRecursion P ys
 all_split P [] ys all = (tt, all)
 all_split P (x ∷ xs) ys (p, all) = let r = all_split P xs ys all in ((p, r.0), r.1)
 
-all_of_map : {X Y : Type 0} (P : Y → Type 0) (f : X → Y) (xs : List X) → All P (map f xs) → All (λ x. P (f x)) xs
+all_of_map : {X Y : Type 0} (P : Y → Type 0) (f : X → Y) (xs : List X) → AllByRecursion P (map f xs) → AllByRecursion (λ x. P (f x)) xs
 all_of_map P f [] all = tt
 all_of_map P f (x ∷ xs) (p, all) = (p, all_of_map P f xs all)
 
-all_to_map : {X Y : Type 0} (P : Y → Type 0) (f : X → Y) (xs : List X) → All (λ x. P (f x)) xs → All P (map f xs)
+all_to_map : {X Y : Type 0} (P : Y → Type 0) (f : X → Y) (xs : List X) → AllByRecursion (λ x. P (f x)) xs → AllByRecursion P (map f xs)
 all_to_map P f [] all = tt
 all_to_map P f (x ∷ xs) (p, all) = (p, all_to_map P f xs all)
 
-all_of_joined : {X Y : Type 0} (P : Y → Type 0) (f : X → List Y) (xs : List X) → All P (flat_map f xs) → All (λ x. All P (f x)) xs
+all_of_joined : {X Y : Type 0} (P : Y → Type 0) (f : X → List Y) (xs : List X) → AllByRecursion P (flat_map f xs) → AllByRecursion (λ x. AllByRecursion P (f x)) xs
 all_of_joined P f [] all = tt
 all_of_joined P f (x ∷ xs) all = let r = all_split P (f x) (flat_map f xs) all in (r.0, all_of_joined P f xs r.1)
 
-all_joined : {X Y : Type 0} (P : Y → Type 0) (f : X → List Y) (xs : List X) → All (λ x. All P (f x)) xs → All P (flat_map f xs)
+all_joined : {X Y : Type 0} (P : Y → Type 0) (f : X → List Y) (xs : List X) → AllByRecursion (λ x. AllByRecursion P (f x)) xs → AllByRecursion P (flat_map f xs)
 all_joined P f [] all = tt
 all_joined P f (x ∷ xs) (p, all) = All-append P (f x) (flat_map f xs) p (all_joined P f xs all)
 
-all_both : {X : Type 0} (P Q : X → Type 0) (xs : List X) → All P xs → All Q xs → All (λ x. P x × Q x) xs
+all_both : {X : Type 0} (P Q : X → Type 0) (xs : List X) → AllByRecursion P xs → AllByRecursion Q xs → AllByRecursion (λ x. P x × Q x) xs
 all_both P Q [] p q = tt
 all_both P Q (x ∷ xs) (p, ps) (q, qs) = ((p, q), all_both P Q xs ps qs)
 
-pub all_counting : (P : ℕ → Type 0) (n : ℕ) → ((k : ℕ) → k < n → P k) → All P (range_with_len 0 n)
+pub all_counting : (P : ℕ → Type 0) (n : ℕ) → ((k : ℕ) → k < n → P k) → AllByRecursion P (range_with_len 0 n)
 all_counting P n h =
     All-from_get_or P (range_with_len 0 n) 0 (λ i lt.
     let at : i < n = omega (arith, length-range_with_len 0 n) in
     subst P (sym (get_or-range_with_len 0 n i 0 at ∙ omega arith)) (h i at))
 
-map_same : {X Y : Type 0} (f g : X → Y) (xs : List X) → All (λ x. f x ≡ g x) xs → map f xs ≡ map g xs
+map_same : {X Y : Type 0} (f g : X → Y) (xs : List X) → AllByRecursion (λ x. f x ≡ g x) xs → map f xs ≡ map g xs
 map_same f g [] all = refl
 map_same f g (x ∷ xs) (e, all) = ap (λ y. y ∷ map f xs) e ∙ ap (λ l. g x ∷ l) (map_same f g xs all)
 
 -- from the hours of an area and day to the day
-by_days : (P Q : Cell → Type 0) (areas days hours : List ℕ) → ((a d : ℕ) → All (λ h. P (cell a d h)) hours → Q (cell a d 0)) → All P (grid areas days hours) → All Q (flat_map (λ a. map (λ d. cell a d 0) days) areas)
+by_days : (P Q : Cell → Type 0) (areas days hours : List ℕ) → ((a d : ℕ) → AllByRecursion (λ h. P (cell a d h)) hours → Q (cell a d 0)) → AllByRecursion P (grid areas days hours) → AllByRecursion Q (flat_map (λ a. map (λ d. cell a d 0) days) areas)
 by_days P Q areas days hours go all =
     all_joined Q (λ a. map (λ d. cell a d 0) days) areas
-    (All-weaker (λ a. All P (flat_map (λ d. map (cell a d) hours) days)) (λ a. All Q (map (λ d. cell a d 0) days))
+    (All-weaker (λ a. AllByRecursion P (flat_map (λ d. map (cell a d) hours) days)) (λ a. AllByRecursion Q (map (λ d. cell a d 0) days))
     (λ a here. all_to_map Q (λ d. cell a d 0) days
-    (All-weaker (λ d. All P (map (cell a d) hours)) (λ d. Q (cell a d 0)) (λ d at. go a d (all_of_map P (cell a d) hours at)) days
+    (All-weaker (λ d. AllByRecursion P (map (cell a d) hours)) (λ d. Q (cell a d 0)) (λ d at. go a d (all_of_map P (cell a d) hours at)) days
     (all_of_joined P (λ d. map (cell a d) hours) days here)))
     areas (all_of_joined P (λ a. flat_map (λ d. map (cell a d) hours) days) areas all))
 
@@ -95,7 +95,7 @@ hours_part : (b : Bool) (a d x y w v : ℕ) (hours : List ℕ) → (b ≡ true �
 hours_part false a d x y w v hours one = sum_by_zero hours
 hours_part true a d x y w v hours one = over_hours a d x y w v hours (one refl) ∙ ap (λ t. cond t v 0) (and_true (in_area a x) (at_time d y))
 
-day_cost : (n a d : ℕ) (costs : List CostRow) (hours : List ℕ) → All (λ r. eqb r.line n ≡ true → OneOf hours r.hour) costs → sum_by (λ h. cost_in n costs (cell a d h)) hours ≡ cost_in n costs (cell a d 0)
+day_cost : (n a d : ℕ) (costs : List CostRow) (hours : List ℕ) → AllByRecursion (λ r. eqb r.line n ≡ true → OneOf hours r.hour) costs → sum_by (λ h. cost_in n costs (cell a d h)) hours ≡ cost_in n costs (cell a d 0)
 day_cost n a d costs hours all =
     sum_by_swap (λ h r. part cost_line cost_place cost_amount (Only n) (cell a d h) r) hours costs
     ∙ sum_by_same (λ r. sum_by (λ h. part cost_line cost_place cost_amount (Only n) (cell a d h) r) hours) (part cost_line cost_place cost_amount (Only n) (cell a d 0)) costs
@@ -112,7 +112,7 @@ day_unit uses k a d u hours one =
     ∙ hours_part (counts uses u.usage && eqb u.customer k) a d u.subzone u.day u.hour u.quantity hours (λ _. one)
     ∙ sym (unit_part_is uses (cell a d 0) k u)
 
-day_units : (uses : Kinds) (k a d : ℕ) (units : List UnitRow) (hours : List ℕ) → All (λ (u : UnitRow). OneOf hours u.hour) units → sum_by (λ h. units_of uses units (cell a d h) k) hours ≡ units_of uses units (cell a d 0) k
+day_units : (uses : Kinds) (k a d : ℕ) (units : List UnitRow) (hours : List ℕ) → AllByRecursion (λ (u : UnitRow). OneOf hours u.hour) units → sum_by (λ h. units_of uses units (cell a d h) k) hours ≡ units_of uses units (cell a d 0) k
 day_units uses k a d units hours all =
     sum_by_swap (λ h u. unit_part uses (cell a d h) k u) hours units
     ∙ sum_by_same (λ u. sum_by (λ h. unit_part uses (cell a d h) k u) hours) (unit_part uses (cell a d 0) k) units
@@ -121,23 +121,23 @@ day_units uses k a d units hours all =
 
 -- the rows of lawful tables have lawful fields
 
-pub units_allowed : (z : Sizes) (units : List UnitRow) → first_of (unit_faults z units) ≡ None → All (λ u. unlawful_unit z u ≡ false) units
+pub units_allowed : (z : Sizes) (units : List UnitRow) → first_of (unit_faults z units) ≡ None → AllByRecursion (λ u. unlawful_unit z u ≡ false) units
 units_allowed z units none =
     All-from_get_or (λ u. unlawful_unit z u ≡ false) units no_units (λ i lt.
     (or_parts (unlawful_unit z (get_or units i no_units)) _ (first_fails (unit_fault z units) (λ i. UnlawfulRow UnitTable i) (length units) none i lt)).0)
 
-pub costs_allowed : (z : Sizes) (costs : List CostRow) → first_of (cost_faults z costs) ≡ None → All (λ r. unlawful_cost z r ≡ false) costs
+pub costs_allowed : (z : Sizes) (costs : List CostRow) → first_of (cost_faults z costs) ≡ None → AllByRecursion (λ r. unlawful_cost z r ≡ false) costs
 costs_allowed z costs none =
     All-from_get_or (λ r. unlawful_cost z r ≡ false) costs no_cost (λ i lt.
     (or_parts (unlawful_cost z (get_or costs i no_cost)) _ (first_fails (cost_fault z costs) (λ i. UnlawfulRow CostTable i) (length costs) none i lt)).0)
 
 -- lawful rows have their hour on the line's axis
-cost_hours : (l : Line) (n : ℕ) (z : Sizes) (costs : List CostRow) → line_of n ≡ Some l → All (λ r. unlawful_cost z r ≡ false) costs → All (λ r. eqb r.line n ≡ true → OneOf (hours l) r.hour) costs
+cost_hours : (l : Line) (n : ℕ) (z : Sizes) (costs : List CostRow) → line_of n ≡ Some l → AllByRecursion (λ r. unlawful_cost z r ≡ false) costs → AllByRecursion (λ r. eqb r.line n ≡ true → OneOf (hours l) r.hour) costs
 cost_hours l n z costs is all =
     All-weaker (λ r. unlawful_cost z r ≡ false) (λ r. eqb r.line n ≡ true → OneOf (hours l) r.hour)
     (λ r law e. hour_on_axis l z r (right_fields l n z r is (eqb-true r.line n e) law)) costs all
 
-unit_hours : (b : Bool) (z : Sizes) (units : List UnitRow) → All (λ u. unlawful_unit z u ≡ false) units → All (λ (u : UnitRow). OneOf (axis b hours_of_day) u.hour) units
+unit_hours : (b : Bool) (z : Sizes) (units : List UnitRow) → AllByRecursion (λ u. unlawful_unit z u ≡ false) units → AllByRecursion (λ (u : UnitRow). OneOf (axis b hours_of_day) u.hour) units
 unit_hours b z units all =
     All-weaker (λ u. unlawful_unit z u ≡ false) (λ (u : UnitRow). OneOf (axis b hours_of_day) u.hour)
     (λ u law.
@@ -148,7 +148,7 @@ unit_hours b z units all =
     units all
 
 -- what holds of each line of a table holds of one that is found
-of_found : (P : Line → Type 0) (ls : List Line) (n : ℕ) (l : Line) → All P ls → look_up n ls ≡ Some l → P l
+of_found : (P : Line → Type 0) (ls : List Line) (n : ℕ) (l : Line) → AllByRecursion P ls → look_up n ls ≡ Some l → P l
 of_found P [] n l all e = let q : ◌≡◌ {A = ℕ} 0 1 = cc in absurd (omega arith)
 of_found P (x ∷ ls) n l (p, all) e = go (eqb n x.number) e (of_found P ls n l all)
   where
@@ -203,12 +203,12 @@ module _ (m : Meaning) (l : Line) (z : Sizes) (us us' : List UnitRow) (cs cs' : 
   same_credits : (d : Cell) → Same d → SameStation d → credits_in m l z us cs d ≡ credits_in m l z us' cs' d
   same_credits d s t = ap (λ R. m R (counted m l z us cs d)) (same_recovered d s t) ∙ ap (m (recovered m l z us' cs' d)) (same_counted d s)
 
-  same_column : (f g : ℕ → Cell → ℕ) (ds : List Cell) → All (λ d. (k : ℕ) → k < z.customers → f k d ≡ g k d) ds → column m l z us cs f ds ≡ column m l z us' cs' g ds
+  same_column : (f g : ℕ → Cell → ℕ) (ds : List Cell) → AllByRecursion (λ d. (k : ℕ) → k < z.customers → f k d ≡ g k d) ds → column m l z us cs f ds ≡ column m l z us' cs' g ds
   same_column f g ds all =
       map_same (λ k. sum_by (f k) ds) (λ k. sum_by (g k) ds) (range_with_len 0 z.customers) (all_counting (λ k. sum_by (f k) ds ≡ sum_by (g k) ds) z.customers
       (λ k lt. sum_by_same (f k) (g k) ds (All-weaker (λ d. (k : ℕ) → k < z.customers → f k d ≡ g k d) (λ d. f k d ≡ g k d) (λ d e. e k lt) ds all)))
 
-  same_figures : All Same (cells l z) → All (λ d. Same d × SameStation d) (station_days l z) → figures m l z us cs ≡ figures m l z us' cs'
+  same_figures : AllByRecursion Same (cells l z) → AllByRecursion (λ d. Same d × SameStation d) (station_days l z) → figures m l z us cs ≡ figures m l z us' cs'
   same_figures at on =
       let ds = station_days l z in
       let a = same_column (share_of m l z us cs) (share_of m l z us' cs') (cells l z) (All-weaker Same (λ c. (k : ℕ) → k < z.customers → share_of m l z us cs k c ≡ share_of m l z us' cs' k c) (λ c s k lt. ap (λ xs. get_or xs k 0) (same_shares c s)) (cells l z) at) in
@@ -224,20 +224,20 @@ module _ (m : Meaning) (l : Line) (z : Sizes) (us us' : List UnitRow) (cs cs' : 
           ◌≡◌ {A = Figures} (record { charges = a; stations = b; credits = c; short = d; over = e; stranded = pos f }) (record { charges = a'; stations = b'; credits = c'; short = d'; over = e'; stranded = pos f' })
       together a b c d e f = cc
 
-  same_too_large : All (λ d. Same d × SameStation d) (station_days l z) → too_large m l z us cs ≡ too_large m l z us' cs'
+  same_too_large : AllByRecursion (λ d. Same d × SameStation d) (station_days l z) → too_large m l z us cs ≡ too_large m l z us' cs'
   same_too_large on =
       map_same (too_large_at m l z us cs) (too_large_at m l z us' cs') (station_days l z)
       (All-weaker (λ d. Same d × SameStation d) (λ (d : Cell). too_large_at m l z us cs d ≡ too_large_at m l z us' cs' d)
       (λ d s. let test : ℕ → Bool × Refusal = λ R. (ltb most_amount R, StationChargesTooLarge d.area d.day) in ap test (same_recovered d s.0 s.1)) (station_days l z) on)
 
   -- cells that agree make days that agree
-  same_cells : AgreeOn l z us us' cs cs' → All Same (cells l z)
+  same_cells : AgreeOn l z us us' cs cs' → AllByRecursion Same (cells l z)
   same_cells agree =
       All-weaker (λ c. (cost_in l.number cs c ≡ cost_in l.number cs' c) × ((k : ℕ) → k < z.customers → units_of l.counted us c k ≡ units_of l.counted us' c k)) Same
       (λ c p. record { pools = p.0; units = p.1 }) (cells l z)
       (all_both (λ c. cost_in l.number cs c ≡ cost_in l.number cs' c) (λ c. (k : ℕ) → k < z.customers → units_of l.counted us c k ≡ units_of l.counted us' c k) (cells l z) agree.pools_alike agree.counted_alike)
 
-  same_days : (n : ℕ) → line_of n ≡ Some l → LawfulRows z us cs → LawfulRows z us' cs' → All Same (cells l z) → All Same (flat_map (λ a. map (λ d. cell a d 0) (days l z)) (areas l z))
+  same_days : (n : ℕ) → line_of n ≡ Some l → LawfulRows z us cs → LawfulRows z us' cs' → AllByRecursion Same (cells l z) → AllByRecursion Same (flat_map (λ a. map (λ d. cell a d 0) (days l z)) (areas l z))
   same_days n is lawful lawful' at = by_days Same Same (areas l z) (days l z) (hours l)
       (λ a d here. record {
         pools =
@@ -253,12 +253,12 @@ module _ (m : Meaning) (l : Line) (z : Sizes) (us us' : List UnitRow) (cs cs' : 
       })
       at
 
-  station_days_alike : (n : ℕ) → line_of n ≡ Some l → LawfulRows z us cs → LawfulRows z us' cs' → All Same (cells l z) → (o : Option ℕ) → l.station ≡ o → All Same (days_for o l z)
+  station_days_alike : (n : ℕ) → line_of n ≡ Some l → LawfulRows z us cs → LawfulRows z us' cs' → AllByRecursion Same (cells l z) → (o : Option ℕ) → l.station ≡ o → AllByRecursion Same (days_for o l z)
   station_days_alike n is lawful lawful' at None e = tt
   station_days_alike n is lawful lawful' at (Some station) e =
-      subst (λ b. All Same (flat_map (λ a. map (λ d. cell a d 0) (axis b z.days)) (areas l z))) (dated_station n l station is e) (same_days n is lawful lawful' at)
+      subst (λ b. AllByRecursion Same (flat_map (λ a. map (λ d. cell a d 0) (axis b z.days)) (areas l z))) (dated_station n l station is e) (same_days n is lawful lawful' at)
 
-  same_on : (n : ℕ) → line_of n ≡ Some l → LawfulRows z us cs → LawfulRows z us' cs' → AgreeOn l z us us' cs cs' → All (λ d. Same d × SameStation d) (station_days l z)
+  same_on : (n : ℕ) → line_of n ≡ Some l → LawfulRows z us cs → LawfulRows z us' cs' → AgreeOn l z us us' cs cs' → AllByRecursion (λ d. Same d × SameStation d) (station_days l z)
   same_on n is lawful lawful' agree =
       all_both Same SameStation (station_days l z) (station_days_alike n is lawful lawful' (same_cells agree) l.station refl) agree.stations_alike
 
@@ -330,7 +330,7 @@ bill_balances m law n z us cs p f h =
     let a = accepted m n z us cs p t.0 in
     subst (λ f. Balances f (line_costs n cs)) (sym t.1) (at (line_of n) refl a.known (costs_allowed z cs a.lawful.costs_lawful))
   where
-    at : (o : Option Line) → line_of n ≡ o → is_some o ≡ true → All (λ r. unlawful_cost z r ≡ false) cs → Balances (figures_for m o z us cs) (line_costs n cs)
+    at : (o : Option Line) → line_of n ≡ o → is_some o ≡ true → AllByRecursion (λ r. unlawful_cost z r ≡ false) cs → Balances (figures_for m o z us cs) (line_costs n cs)
     at None is known all = absurd (false≢true known)
     at (Some l) is known all = balanced m law l z us cs n is all
 

@@ -1,7 +1,7 @@
 -- The balance of a bill, and how near each of its figures is to its exact fraction.
 use Rattle.std.proofs.Common.{◌≡◌, ℕ, zero, suc, ◌+◌, ◌*◌, ◌/◌, ◌<◌, ◌≤◌, Bool, true, false, cond, ◌&&◌, ◌||◌, eqb, ltb, List, [], ◌∷◌, length, get_or, replicate, ℤ, pos, ◌+ℤ◌, ◌-ℤ◌, Some, sum_by, sum, sym, refl, ap, ◌∙◌, subst, div-mul-le_self, arith}
 use native.Mathlib.Nat.{div-zero, lt-div-mul-add}
-use Rattle.std.specs.List.{range_with_len, AllByRecursion as All}
+use Rattle.std.specs.List.{range_with_len, AllByRecursion}
 use Rattle.std.proofs.lemmas.List.Sums.{sum_by-cons, sum-map}
 use Rattle.std.proofs.lemmas.Int.{ints}
 use Rattle.std.proofs.lemmas.List.FromFn.{length-map-range_with_len, get_or-map-range_with_len}
@@ -78,7 +78,7 @@ row_once l n z r is law = go (eqb r.line n) refl
         (on_axis (dated l.span) z.days r.day (needed (dated l.span) z.days r.day right.day_right))
         (hour_on_axis l z r right)
 
-pub costs_once : (l : Line) (n : ℕ) (z : Sizes) (costs : List CostRow) → line_of n ≡ Some l → All (λ r. unlawful_cost z r ≡ false) costs → sum_by (cost_in n costs) (cells l z) ≡ line_costs n costs
+pub costs_once : (l : Line) (n : ℕ) (z : Sizes) (costs : List CostRow) → line_of n ≡ Some l → AllByRecursion (λ r. unlawful_cost z r ≡ false) costs → sum_by (cost_in n costs) (cells l z) ≡ line_costs n costs
 costs_once l n z costs is all =
     sum_by_swap (λ c r. part cost_line cost_place cost_amount (Only n) c r) (cells l z) costs
     ∙ sum_by_same (λ r. sum_by (λ c. part cost_line cost_place cost_amount (Only n) c r) (cells l z)) (λ (r : CostRow). cond (eqb r.line n && true) r.amount 0) costs
@@ -111,7 +111,7 @@ module _ (m : Meaning) (law : Lawful m) (l : Line) (z : Sizes) (units : List Uni
           omega (arith, ints)
       go false e = omega (arith, ints)
 
-  pub charges_balance : (n : ℕ) → line_of n ≡ Some l → All (λ r. unlawful_cost z r ≡ false) costs →
+  pub charges_balance : (n : ℕ) → line_of n ≡ Some l → AllByRecursion (λ r. unlawful_cost z r ≡ false) costs →
       (pos (sum (figures m l z units costs).charges) +ℤ (figures m l z units costs).short) +ℤ (figures m l z units costs).stranded ≡ pos (line_costs n costs)
   charges_balance n is all =
       ap (λ x. (pos x +ℤ (figures m l z units costs).short) +ℤ (figures m l z units costs).stranded) (column_sum (pool m l z units costs) (cells l z))
@@ -134,7 +134,7 @@ module _ (m : Meaning) (law : Lawful m) (l : Line) (z : Sizes) (units : List Uni
   pub credits_balance : pos (sum (figures m l z units costs).credits) +ℤ (figures m l z units costs).over ≡ pos (sum (figures m l z units costs).stations)
   credits_balance = let e = credits_of (station_days l z) in omega (arith, ints)
 
-  pub balanced : (n : ℕ) → line_of n ≡ Some l → All (λ r. unlawful_cost z r ≡ false) costs → Balances (figures m l z units costs) (line_costs n costs)
+  pub balanced : (n : ℕ) → line_of n ≡ Some l → AllByRecursion (λ r. unlawful_cost z r ≡ false) costs → Balances (figures m l z units costs) (line_costs n costs)
   balanced n is all =
       let f = figures m l z units costs in
       joins (sum f.charges) (sum f.stations) (sum f.credits) (line_costs n costs) f.short f.over f.stranded (charges_balance n is all) credits_balance

@@ -1,7 +1,7 @@
 -- Sums over lists, of numbers and of integers.
 use Rattle.std.proofs.Common.{◌≡◌, ℕ, ◌+◌, ◌≤◌, Bool, true, false, cond, List, [], ◌∷◌, map, length, get_or, ℤ, pos, ◌+ℤ◌, fold, sum_by, sum, sym, refl, ap, ◌∙◌, arith}
 use mathlib.Core.Path.{fun_ext}
-use Rattle.std.specs.List.{range_with_len, flat_map, AllByRecursion as All}
+use Rattle.std.specs.List.{range_with_len, flat_map, AllByRecursion}
 use Rattle.std.proofs.lemmas.List.Sums.{sum_by-cons, sum_by-append, sum-map}
 use Rattle.std.proofs.lemmas.Int.{ints}
 use Rattle.std.proofs.lemmas.List.FromFn.{fill_by_all}
@@ -15,7 +15,7 @@ pub sum_by_add : {X : Type 0} (f g : X → ℕ) (xs : List X) → sum_by (λ x. 
 sum_by_add f g [] = refl
 sum_by_add f g (x ∷ xs) = omega (arith, sum_by-cons (λ x. f x + g x) x xs, sum_by-cons f x xs, sum_by-cons g x xs, sum_by_add f g xs)
 
-pub sum_by_same : {X : Type 0} (f g : X → ℕ) (xs : List X) → All (λ x. f x ≡ g x) xs → sum_by f xs ≡ sum_by g xs
+pub sum_by_same : {X : Type 0} (f g : X → ℕ) (xs : List X) → AllByRecursion (λ x. f x ≡ g x) xs → sum_by f xs ≡ sum_by g xs
 sum_by_same f g [] all = refl
 sum_by_same f g (x ∷ xs) (e, all) = omega (arith, sum_by-cons f x xs, sum_by-cons g x xs, sum_by_same f g xs all)
 
@@ -57,7 +57,7 @@ folded_from f a (x ∷ xs) = let p = folded_from f (a +ℤ f x) xs in let q = fo
 pub sum_z_cons : {X : Type 0} (f : X → ℤ) (x : X) (xs : List X) → sum_z f (x ∷ xs) ≡ f x +ℤ sum_z f xs
 sum_z_cons f x xs = let p = folded_from f (pos 0 +ℤ f x) xs in omega (arith, ints)
 
-pub sum_z_same : {X : Type 0} (f g : X → ℤ) (xs : List X) → All (λ x. f x ≡ g x) xs → sum_z f xs ≡ sum_z g xs
+pub sum_z_same : {X : Type 0} (f g : X → ℤ) (xs : List X) → AllByRecursion (λ x. f x ≡ g x) xs → sum_z f xs ≡ sum_z g xs
 sum_z_same f g [] all = refl
 sum_z_same f g (x ∷ xs) (e, all) = sum_z_cons f x xs ∙ ap (λ a. a +ℤ sum_z f xs) e ∙ ap (λ b. g x +ℤ b) (sum_z_same f g xs all) ∙ sym (sum_z_cons g x xs)
 

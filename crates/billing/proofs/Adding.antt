@@ -1,6 +1,6 @@
 -- A customer's units, one row on.
 use Rattle.std.proofs.Common.{◌≡◌, ℕ, ◌+◌, ◌-◌, ◌<◌, ◌≤◌, Bool, true, false, cond, ◌&&◌, eqb, List, length, get_or, take, drop, arith, length-take}
-use Rattle.std.specs.List.{AllByRecursion as All}
+use Rattle.std.specs.List.{AllByRecursion}
 use Rattle.std.proofs.ByRecursion.{All-get_or}
 use Rattle.std.proofs.lemmas.List.{get_or-take}
 use Rattle.std.proofs.lemmas.List.Sums.{sum_by_more, sum_by-take-le}
@@ -31,7 +31,7 @@ pub room_for : (uses : Kinds) (units : List UnitRow) (c : Cell) (i k : ℕ) → 
 room_for uses units c i k lt =
     omega (arith, units_le uses (take i units) c k, sum_by_more (λ (u : UnitRow). u.quantity) units i no_units lt, sum_by-take-le (λ (u : UnitRow). u.quantity) units (i + 1))
 
-pub known_at : (units : List UnitRow) (n i : ℕ) → All (λ (u : UnitRow). u.customer < n) units → i < length units → (get_or units i no_units).customer < n
+pub known_at : (units : List UnitRow) (n i : ℕ) → AllByRecursion (λ (u : UnitRow). u.customer < n) units → i < length units → (get_or units i no_units).customer < n
 known_at units n i known lt = All-get_or (λ (u : UnitRow). u.customer < n) units i no_units lt known
 
 -- the front of a scratch column

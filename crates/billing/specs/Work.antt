@@ -10,7 +10,7 @@
 --   Billable what is known of rows and columns that are not refused
 --   Sound    what the calculation knows of a book's sizes and lawful rows
 use Rattle.std.specs.Prelude.{◌≡◌, ℕ, ◌+◌, ◌<◌, ◌≤◌, Bool, true, false, List, length, Some, sum_by, Result, slice_index}
-use Rattle.std.specs.List.{AllByRecursion as All}
+use Rattle.std.specs.List.{AllByRecursion}
 use Rattle.tariff.specs.declared.refusal.Refusal.{Refusal}
 use Rattle.tariff.specs.declared.rows.Sizes.{Sizes}
 use Rattle.tariff.specs.declared.rows.UnitRow.{UnitRow}
@@ -59,7 +59,7 @@ pub record Sound (l : Line) (z : Sizes) (units : List UnitRow) (costs : List Cos
   pub customers_few : z.customers ≤ most_customers
   pub days_few : z.days ≤ most_days
   pub subzones_few : z.subzones ≤ most_subzones
-  pub customers_known : All (λ (u : UnitRow). u.customer < z.customers) units
+  pub customers_known : AllByRecursion (λ (u : UnitRow). u.customer < z.customers) units
   pub units_fit : all_quantities units ≤ most_amount
   pub station_dated : (station : ℕ) → l.station ≡ Some station → dated l.span ≡ true
   pub costs_fit : (a d h : ℕ) → Proper l a d → cost_in l.number costs (cell a d h) ≤ most_amount

@@ -1,6 +1,6 @@
 // Columns with one figure a customer.
 ghost use Rattle.std.specs.Prelude.{◌≡◌, ℕ, ◌+◌, ◌*◌, ◌^◌, ◌<◌, ◌≤◌, length, sum, slice_index};
-ghost use Rattle.std.specs.List.{AllByRecursion as All};
+ghost use Rattle.std.specs.List.{AllByRecursion};
 ghost use Rattle.tariff.specs.Limits.{most_amount, most_customers};
 ghost use Rattle.lines.specs.Totals.{all_quantities};
 ghost use Rattle.bill_rules.specs.Bill.{unit_part, units_in};
@@ -37,7 +37,7 @@ fn add_row(column: &mut [u32], uses: Kinds, cell: Cell, row: &UnitRow)
 
 // Each customer's units of these uses in the cell.
 pub(crate) fn fill_units(units: &[UnitRow], uses: Kinds, cell: Cell, column: &mut [u32])
-    requires known { All (λ u. u.customer < length column.old) units.now }
+    requires known { AllByRecursion (λ u. u.customer < length column.old) units.now }
     requires small { all_quantities units.now ≤ most_amount }
     ensures { column.new ≡ units_in uses units.now (length column.old) cell }
 {
@@ -56,8 +56,8 @@ pub(crate) fn fill_both(
     other_uses: Kinds,
     other_column: &mut [u32],
 )
-    requires known { All (λ u. u.customer < length column.old) units.now }
-    requires other_known { All (λ u. u.customer < length other_column.old) units.now }
+    requires known { AllByRecursion (λ u. u.customer < length column.old) units.now }
+    requires other_known { AllByRecursion (λ u. u.customer < length other_column.old) units.now }
     requires small { all_quantities units.now ≤ most_amount }
     ensures first { column.new ≡ units_in uses units.now (length column.old) cell }
     ensures second { other_column.new ≡ units_in other_uses units.now (length other_column.old) cell }

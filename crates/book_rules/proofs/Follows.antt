@@ -1,7 +1,7 @@
 -- The rows that a book counts are those of its history, and lawful; so each bill follows them.
 -- Assumes nothing.
 use Rattle.std.proofs.Common.{◌≡◌, ℕ, zero, suc, ◌+◌, ◌≤◌, Bool, true, false, cond, ◌&&◌, ◌||◌, eqb, ltb, leb, List, [], ◌∷◌, ◌++◌, length, get_or, take, set, Some, None, Ok, Err, Option, Result, sym, refl, ap, ◌∙◌, ⊎_elim, arith, length-set, length-take-le, get_or-take}
-use Rattle.std.specs.List.{AllByRecursion as All}
+use Rattle.std.specs.List.{AllByRecursion}
 use Rattle.std.proofs.lemmas.List.Sums.{sum_by_push, sum_by-take-le}
 use Rattle.std.proofs.lemmas.List.{take_more_set}
 use Rattle.std.proofs.ByRecursion.{All-push, All-set, All-get_or}
@@ -31,11 +31,11 @@ use Rattle.book_rules.specs.Run.{State, Call, admit, remove, hand_in, post, add_
 use Rattle.book_rules.specs.Laws.{past, bill_after, Follows}
 
 -- a list of tests of which none holds
-none_all : (ts : List (Bool × Refusal)) → first_of ts ≡ None → All (λ (t : Bool × Refusal). t.0 ≡ false) ts
+none_all : (ts : List (Bool × Refusal)) → first_of ts ≡ None → AllByRecursion (λ (t : Bool × Refusal). t.0 ≡ false) ts
 none_all [] e = tt
 none_all (t ∷ ts) e = go t.0 refl e (none_all ts)
   where
-    go : (b : Bool) → t.0 ≡ b → cond b (Some t.1) (first_of ts) ≡ None → (first_of ts ≡ None → All (λ (t : Bool × Refusal). t.0 ≡ false) ts) → (t.0 ≡ false) × All (λ (t : Bool × Refusal). t.0 ≡ false) ts
+    go : (b : Bool) → t.0 ≡ b → cond b (Some t.1) (first_of ts) ≡ None → (first_of ts ≡ None → AllByRecursion (λ (t : Bool × Refusal). t.0 ≡ false) ts) → (t.0 ≡ false) × AllByRecursion (λ (t : Bool × Refusal). t.0 ≡ false) ts
     go true q h rest = let z : ◌≡◌ {A = ℕ} 0 1 = cc in absurd (omega arith)
     go false q h rest = (q, rest h)
 
@@ -47,9 +47,9 @@ take_set_in (suc n) (x ∷ xs) (suc i) y = ap (λ l. x ∷ l) (take_set_in n xs 
 
 -- what makes all rows of a book lawful
 record Sound (z : Sizes) (units : List UnitRow) (costs : List CostRow) : Type 0 where
-  units_lawful : All (λ u. unlawful_unit z u ≡ false) units
+  units_lawful : AllByRecursion (λ u. unlawful_unit z u ≡ false) units
   units_sum : all_quantities units ≤ most_amount
-  costs_lawful : All (λ r. unlawful_cost z r ≡ false) costs
+  costs_lawful : AllByRecursion (λ r. unlawful_cost z r ≡ false) costs
   costs_sum : (r : CostRow) → unlawful_cost z r ≡ false → alike r costs ≤ most_amount
 
 cost_part : CostRow → CostRow → ℕ

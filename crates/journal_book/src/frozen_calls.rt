@@ -1,7 +1,7 @@
 // The calls of a journal while its book is frozen.
 ghost use Rattle.std.specs.Prelude.{◌≡◌, ℕ, List, length, Option as Maybe};
-ghost use Rattle.tariff.specs.declared.rows.UnitRow.{UnitRow as Unit-row};
-ghost use Rattle.tariff.specs.declared.rows.CostRow.{CostRow as Cost-row};
+ghost use Rattle.tariff.specs.declared.rows.UnitRow.{UnitRow as UnitEntry};
+ghost use Rattle.tariff.specs.declared.rows.CostRow.{CostRow as CostEntry};
 ghost use Rattle.sharing.specs.Rule.{Lawful, Rule};
 ghost use Rattle.book.specs.declared.states.Pass.{Pass as Token};
 ghost use Rattle.book.specs.Shown.{frozen_book};
@@ -22,13 +22,13 @@ use sharing::SharingRule;
 use tariff::{CostRow, UnitRow};
 
 fn reopen(book: FrozenBook) -> (Stage, Reply)
-    ensures { (rules : Name → Rule) (room : ℕ) (units : List Unit-row) (costs : List Cost-row) (marks : List ℕ) (passes : List (Maybe Token)) → Answers rules room Reopen (frozen_journal book units costs marks passes) (shown_as result.0 units costs marks passes) result.1 }
+    ensures { (rules : Name → Rule) (room : ℕ) (units : List UnitEntry) (costs : List CostEntry) (marks : List ℕ) (passes : List (Maybe Token)) → Answers rules room Reopen (frozen_journal book units costs marks passes) (shown_as result.0 units costs marks passes) result.1 }
 {
     (Stage::Open(book.reopen()), Reply::Open)
 }
 
 fn take_in(book: &FrozenBook, marks: &[u32], passes: &mut Vec<Option<Pass>>, number: u32) -> Reply
-    ensures { (rules : Name → Rule) (room : ℕ) (units : List Unit-row) (costs : List Cost-row) → Answers rules room (TakeIn number) (frozen_journal book.now units costs marks.now passes.old.items) (frozen_journal book.now units costs marks.now passes.new.items) result }
+    ensures { (rules : Name → Rule) (room : ℕ) (units : List UnitEntry) (costs : List CostEntry) → Answers rules room (TakeIn number) (frozen_journal book.now units costs marks.now passes.old.items) (frozen_journal book.now units costs marks.now passes.new.items) result }
 {
     let Some(pass) = take_pass(passes, number) else {
         return Reply::NoPass(number);

@@ -1,7 +1,7 @@
 // The calls of a journal while its book is open.
 ghost use Rattle.std.specs.Prelude.{◌≡◌, ℕ, List, Option as Maybe};
-ghost use Rattle.tariff.specs.declared.rows.UnitRow.{UnitRow as Unit-row};
-ghost use Rattle.tariff.specs.declared.rows.CostRow.{CostRow as Cost-row};
+ghost use Rattle.tariff.specs.declared.rows.UnitRow.{UnitRow as UnitEntry};
+ghost use Rattle.tariff.specs.declared.rows.CostRow.{CostRow as CostEntry};
 ghost use Rattle.sharing.specs.Rule.{Rule};
 ghost use Rattle.journal_line.specs.declared.calls.RuleName.{RuleName};
 ghost use Rattle.journal_line.specs.declared.calls.Command.TheVariants.{Admit, Remove, HandIn, Post, Correct, Cost, Freeze};
@@ -27,7 +27,7 @@ fn admit(
     passes: &mut Vec<Option<Pass>>,
     contributor: usize,
 ) -> Result<Reply, AllocError>
-    ensures { (rules : RuleName → Rule) (room : ℕ) (units : List Unit-row) (costs : List Cost-row) → Leaves rules room (Admit contributor) (open_journal book.old units costs marks.old passes.old.items) (open_journal book.new units costs marks.new passes.new.items) result }
+    ensures { (rules : RuleName → Rule) (room : ℕ) (units : List UnitEntry) (costs : List CostEntry) → Leaves rules room (Admit contributor) (open_journal book.old units costs marks.old passes.old.items) (open_journal book.new units costs marks.new passes.new.items) result }
 {
     passes.reserve(1)?;
     match book.admit(marks, contributor) {
@@ -41,7 +41,7 @@ fn admit(
 }
 
 fn remove(book: &OpenBook, marks: &mut [u32], contributor: usize) -> Reply
-    ensures { (rules : RuleName → Rule) (room : ℕ) (units : List Unit-row) (costs : List Cost-row) (passes : List (Maybe Token)) → Answers rules room (Remove contributor) (open_journal book.now units costs marks.old passes) (open_journal book.now units costs marks.new passes) result }
+    ensures { (rules : RuleName → Rule) (room : ℕ) (units : List UnitEntry) (costs : List CostEntry) (passes : List (Maybe Token)) → Answers rules room (Remove contributor) (open_journal book.now units costs marks.old passes) (open_journal book.now units costs marks.new passes) result }
 {
     match book.remove(marks, contributor) {
         Ok(()) => Reply::Removed,
@@ -50,7 +50,7 @@ fn remove(book: &OpenBook, marks: &mut [u32], contributor: usize) -> Reply
 }
 
 fn hand_in(book: &OpenBook, marks: &mut [u32], passes: &mut Vec<Option<Pass>>, number: u32) -> Reply
-    ensures { (rules : RuleName → Rule) (room : ℕ) (units : List Unit-row) (costs : List Cost-row) → Answers rules room (HandIn number) (open_journal book.now units costs marks.old passes.old.items) (open_journal book.now units costs marks.new passes.new.items) result }
+    ensures { (rules : RuleName → Rule) (room : ℕ) (units : List UnitEntry) (costs : List CostEntry) → Answers rules room (HandIn number) (open_journal book.now units costs marks.old passes.old.items) (open_journal book.now units costs marks.new passes.new.items) result }
 {
     let Some(pass) = take_pass(passes, number) else {
         return Reply::NoPass(number);
@@ -78,7 +78,7 @@ fn post(
     number: u32,
     row: UnitRow,
 ) -> Reply
-    ensures { (rules : RuleName → Rule) (room : ℕ) (costs : List Cost-row) → Answers rules room (Post number row) (open_journal book.old units.old costs marks.now passes.now) (open_journal book.new units.new costs marks.now passes.now) result }
+    ensures { (rules : RuleName → Rule) (room : ℕ) (costs : List CostEntry) → Answers rules room (Post number row) (open_journal book.old units.old costs marks.now passes.now) (open_journal book.new units.new costs marks.now passes.now) result }
 {
     let Some(pass) = held_pass(passes, number) else {
         return Reply::NoPass(number);
@@ -94,7 +94,7 @@ fn add_cost(
     number: u32,
     row: CostRow,
 ) -> Reply
-    ensures { (rules : RuleName → Rule) (room : ℕ) (units : List Unit-row) → Answers rules room (Cost number row) (open_journal book.old units costs.old marks.now passes.now) (open_journal book.new units costs.new marks.now passes.now) result }
+    ensures { (rules : RuleName → Rule) (room : ℕ) (units : List UnitEntry) → Answers rules room (Cost number row) (open_journal book.old units costs.old marks.now passes.now) (open_journal book.new units costs.new marks.now passes.now) result }
 {
     let Some(pass) = held_pass(passes, number) else {
         return Reply::NoPass(number);
@@ -111,7 +111,7 @@ fn correct(
     row: usize,
     quantity: u32,
 ) -> Reply
-    ensures { (rules : RuleName → Rule) (room : ℕ) (costs : List Cost-row) → Answers rules room (Correct number row quantity) (open_journal book.now units.old costs marks.now passes.now) (open_journal book.now units.new costs marks.now passes.now) result }
+    ensures { (rules : RuleName → Rule) (room : ℕ) (costs : List CostEntry) → Answers rules room (Correct number row quantity) (open_journal book.now units.old costs marks.now passes.now) (open_journal book.now units.new costs marks.now passes.now) result }
 {
     let Some(pass) = held_pass(passes, number) else {
         return Reply::NoPass(number);
@@ -123,7 +123,7 @@ fn correct(
 }
 
 fn freeze(book: OpenBook, marks: &[u32]) -> (Stage, Reply)
-    ensures { (rules : RuleName → Rule) (room : ℕ) (units : List Unit-row) (costs : List Cost-row) (passes : List (Maybe Token)) → Answers rules room Freeze (open_journal book units costs marks.now passes) (shown_as result.0 units costs marks.now passes) result.1 }
+    ensures { (rules : RuleName → Rule) (room : ℕ) (units : List UnitEntry) (costs : List CostEntry) (passes : List (Maybe Token)) → Answers rules room Freeze (open_journal book units costs marks.now passes) (shown_as result.0 units costs marks.now passes) result.1 }
 {
     match book.freeze(marks) {
         Ok(frozen) => (Stage::Frozen(frozen), Reply::Frozen),

@@ -1,6 +1,6 @@
 -- How large the figures of an accepted bill can be, under any lawful rule.
 use Rattle.std.proofs.Common.{◌≡◌, ℕ, ◌*◌, ◌^◌, ◌<◌, ◌≤◌, Bool, true, false, cond, eqb, ltb, List, [], ◌∷◌, map, length, get_or, is_some, Some, None, Ok, sum_by, Option, sym, refl, ap, ◌∙◌, subst, add-mul, arith}
-use Rattle.std.specs.List.{flat_map, AllByRecursion as All}
+use Rattle.std.specs.List.{flat_map, AllByRecursion}
 use Rattle.std.proofs.lemmas.Nat.{mul-le}
 use Rattle.std.proofs.lemmas.List.FromFn.{length-range_with_len, length-map-range_with_len, get_or-map-range_with_len}
 use Rattle.std.proofs.ByRecursion.{All-weaker}
@@ -38,17 +38,17 @@ most_charge = 56693568280800
 abbrev pub most_station : ℕ
 most_station = 2130303777824
 
-pub sum_within : {X : Type 0} (f : X → ℕ) (most : ℕ) (xs : List X) → All (λ x. f x ≤ most) xs → sum_by f xs ≤ length xs * most
+pub sum_within : {X : Type 0} (f : X → ℕ) (most : ℕ) (xs : List X) → AllByRecursion (λ x. f x ≤ most) xs → sum_by f xs ≤ length xs * most
 sum_within f most [] all = omega arith
 sum_within f most (x ∷ xs) (here, rest) = omega (arith, sum_by-cons f x xs, here, sum_within f most xs rest, add-mul 1 (length xs) most)
 
 -- where no R is too large, each is within the limit
-none_too_large : (m : Meaning) (l : Line) (z : Sizes) (us : List UnitRow) (cs : List CostRow) (ds : List Cell) → first_of (map (too_large_at m l z us cs) ds) ≡ None → All (λ d. recovered m l z us cs d ≤ most_amount) ds
+none_too_large : (m : Meaning) (l : Line) (z : Sizes) (us : List UnitRow) (cs : List CostRow) (ds : List Cell) → first_of (map (too_large_at m l z us cs) ds) ≡ None → AllByRecursion (λ d. recovered m l z us cs d ≤ most_amount) ds
 none_too_large m l z us cs [] none = tt
 none_too_large m l z us cs (d ∷ ds) none = go (ltb most_amount (recovered m l z us cs d)) refl none (none_too_large m l z us cs ds)
   where
     go : (b : Bool) → ltb most_amount (recovered m l z us cs d) ≡ b → cond b (Some (too_large_at m l z us cs d).1) (first_of (map (too_large_at m l z us cs) ds)) ≡ None →
-        (first_of (map (too_large_at m l z us cs) ds) ≡ None → All (λ d. recovered m l z us cs d ≤ most_amount) ds) → All (λ d. recovered m l z us cs d ≤ most_amount) (d ∷ ds)
+        (first_of (map (too_large_at m l z us cs) ds) ≡ None → AllByRecursion (λ d. recovered m l z us cs d ≤ most_amount) ds) → AllByRecursion (λ d. recovered m l z us cs d ≤ most_amount) (d ∷ ds)
     go true e h rest = let q : ◌≡◌ {A = ℕ} 0 1 = cc in absurd (omega arith)
     go false e h rest = (ltb-false most_amount (recovered m l z us cs d) e, rest h)
 
@@ -69,7 +69,7 @@ few_days (Some station) l z few short =
     omega (arith, mul-le (length (areas l z)) z.days most_subzones most_days many short)
 
 -- the lines have numbers of one digit
-found_in : (P : Line → Type 0) (n : ℕ) (l : Line) (ls : List Line) → All P ls → look_up n ls ≡ Some l → P l
+found_in : (P : Line → Type 0) (n : ℕ) (l : Line) (ls : List Line) → AllByRecursion P ls → look_up n ls ≡ Some l → P l
 found_in P n l [] all h = let q : ◌≡◌ {A = ℕ} 0 1 = cc in absurd (omega arith)
 found_in P n l (x ∷ ls) (here, rest) h = go (eqb n x.number) h (found_in P n l ls rest)
   where

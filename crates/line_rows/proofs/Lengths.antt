@@ -1,7 +1,7 @@
 -- How many bytes the rows of an accepted bill take.
 use Rattle.std.proofs.Common.{ℕ, ◌+◌, ◌*◌, ◌^◌, ◌<◌, ◌≤◌, Bool, true, false, cond, List, [], ◌∷◌, ◌++◌, length, get_or, ℤ, decimal, sum, add-mul, arith, w64, SFits}
 use lib.Signed.{mag}
-use Rattle.std.specs.List.{range_with_len, flat_map, AllByRecursion as All}
+use Rattle.std.specs.List.{range_with_len, flat_map, AllByRecursion}
 use Rattle.std.proofs.lemmas.Nat.{mul-le}
 use Rattle.std.proofs.lemmas.List.FromFn.{length-range_with_len}
 use Rattle.std.proofs.lemmas.Fmt.{length-decimal-le, length_signed_le}
@@ -47,7 +47,7 @@ module _ (b : Bool) where
   shown_bytes true row le = omega arith
   shown_bytes false row le = le
 
-joined_within : (g : ℕ → List ℕ) (most : ℕ) (xs : List ℕ) → All (λ x. length (g x) ≤ most) xs → length (flat_map g xs) ≤ length xs * most
+joined_within : (g : ℕ → List ℕ) (most : ℕ) (xs : List ℕ) → AllByRecursion (λ x. length (g x) ≤ most) xs → length (flat_map g xs) ≤ length xs * most
 joined_within g most [] all = omega arith
 joined_within g most (x ∷ xs) (here, rest) = omega (arith, length-append (g x) (flat_map g xs), joined_within g most xs rest, add-mul 1 (length xs) most)
 

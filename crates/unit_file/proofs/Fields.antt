@@ -4,7 +4,7 @@ use Rattle.std.proofs.lemmas.Bool.{eqb-true}
 use Rattle.std.proofs.ByRecursion.{All-get_or}
 use Rattle.std.proofs.lemmas.List.{drop_all}
 use Rattle.std.proofs.lemmas.Bool.Decides.{nat_tests}
-use Rattle.std.specs.List.{AllByRecursion as All}
+use Rattle.std.specs.List.{AllByRecursion}
 use Rattle.unit_file.specs.Records.{Item, header, unit, cost, note, kind_of, fields_of, four_bytes}
 use Rattle.unit_file.specs.Reading.{sizes_in, unit_in, cost_in, item_by, fits_kind, bad_kind}
 
@@ -54,12 +54,12 @@ pub by_firsts : (n : ℕ) (xs : List ℕ) → length xs ≡ n → xs ≡ firsts 
 by_firsts n xs e = drop_firsts 0 n xs (omega arith) ∙ append_nothing (firsts 0 n xs) (drop (0 + n) xs) (drop_all (0 + n) xs (omega arith))
 
 -- the bytes come back from what they say
-header_fields : (f : List ℕ) → All (λ b. b < 256) f → length f ≡ 4 → fields_of (header (sizes_in f)) ≡ f
+header_fields : (f : List ℕ) → AllByRecursion (λ b. b < 256) f → length f ≡ 4 → fields_of (header (sizes_in f)) ≡ f
 header_fields f small e =
     let b : get_or f 1 0 < 256 = All-get_or (λ b. b < 256) f 1 0 (omega arith) small in
     rw (high_byte (get_or f 0 0) (get_or f 1 0) b, low_byte (get_or f 0 0) (get_or f 1 0) b) (sym (by_firsts 4 f e))
 
-unit_fields : (f : List ℕ) → All (λ b. b < 256) f → length f ≡ 10 → fields_of (unit (unit_in f)) ≡ f
+unit_fields : (f : List ℕ) → AllByRecursion (λ b. b < 256) f → length f ≡ 10 → fields_of (unit (unit_in f)) ≡ f
 unit_fields f small e =
     let b : get_or f 1 0 < 256 = All-get_or (λ b. b < 256) f 1 0 (omega arith) small in
     let p : get_or f 7 0 < 256 = All-get_or (λ b. b < 256) f 7 0 (omega arith) small in
@@ -67,7 +67,7 @@ unit_fields f small e =
     let r : get_or f 9 0 < 256 = All-get_or (λ b. b < 256) f 9 0 (omega arith) small in
     rw (high_byte (get_or f 0 0) (get_or f 1 0) b, low_byte (get_or f 0 0) (get_or f 1 0) b, four_bytes_of (get_or f 6 0) (get_or f 7 0) (get_or f 8 0) (get_or f 9 0) p q r) (sym (by_firsts 10 f e))
 
-cost_fields : (f : List ℕ) → All (λ b. b < 256) f → length f ≡ 8 → fields_of (cost (cost_in f)) ≡ f
+cost_fields : (f : List ℕ) → AllByRecursion (λ b. b < 256) f → length f ≡ 8 → fields_of (cost (cost_in f)) ≡ f
 cost_fields f small e =
     let p : get_or f 5 0 < 256 = All-get_or (λ b. b < 256) f 5 0 (omega arith) small in
     let q : get_or f 6 0 < 256 = All-get_or (λ b. b < 256) f 6 0 (omega arith) small in
@@ -77,7 +77,7 @@ cost_fields f small e =
 abbrev Back : ℕ → List ℕ → Type 0
 Back kind f = (fields_of (item_by kind f) ≡ f) × (kind_of (item_by kind f) ≡ kind)
 
-pub fields_back : (kind : ℕ) (f : List ℕ) → All (λ b. b < 256) f → fits_kind kind (1 + length f) ≡ true → bad_kind kind f ≡ false → Back kind f
+pub fields_back : (kind : ℕ) (f : List ℕ) → AllByRecursion (λ b. b < 256) f → fits_kind kind (1 + length f) ≡ true → bad_kind kind f ≡ false → Back kind f
 fields_back zero f small fits good = (header_fields f small (omega (arith, eqb-true (1 + length f) 5 fits)), refl)
 fields_back (suc zero) f small fits good = (unit_fields f small (omega (arith, eqb-true (1 + length f) 11 fits)), refl)
 fields_back (suc (suc zero)) f small fits good = (cost_fields f small (omega (arith, eqb-true (1 + length f) 9 fits)), refl)

@@ -5,7 +5,7 @@ use Rattle.std.proofs.ByRecursion.{All-drop}
 use Rattle.std.proofs.lemmas.List.{drop_all, drop-drop, length-drop, length-append, length-take-le, drop_at, take_at}
 use Rattle.std.proofs.lemmas.Bool.{or_from, lt-leb, le-ltb, ne_eqb, not_from_true}
 use Rattle.std.proofs.lemmas.Bool.Decides.{nat_tests}
-use Rattle.std.specs.List.{flat_map, AllByRecursion as All}
+use Rattle.std.specs.List.{flat_map, AllByRecursion}
 use Rattle.tariff.specs.Limits.{most_file_bytes}
 use Rattle.tariff.specs.Refusals.{answer, first_of}
 use Rattle.tariff.specs.declared.refusal.Refusal.{Refusal}
@@ -47,7 +47,7 @@ record Step (bs : List ℕ) (place : ℕ) (item : Item) : Type 0 where
   next : place_in_order bs place ≡ place + length (bytes_of item)
   fits : (bad_note_length item ≡ false) × (bad_note_bytes item ≡ false) × (misplaced place (Some item) ≡ false)
 
-step : (bs : List ℕ) (place : ℕ) (item : Item) → All (λ b. b < 256) bs → ordered_at bs place ≡ Ok (Some item) → Step bs place item
+step : (bs : List ℕ) (place : ℕ) (item : Item) → AllByRecursion (λ b. b < 256) bs → ordered_at bs place ≡ Ok (Some item) → Step bs place item
 step bs place item small h =
     let rest : List ℕ = drop place bs in
     let r = was_read bs place item h in
@@ -71,7 +71,7 @@ abbrev Walked : List ℕ → ℕ → Contents → Type 0
 Walked bs place c = (drop place bs ≡ flat_map bytes_of c.items) × LawfulFrom place c.items
 
 walk_by : (bs : List ℕ) (place n : ℕ) (o : Answer) → ordered_at bs place ≡ o →
-    All (λ b. b < 256) bs → (go_on o (contents_from n bs (place_in_order bs place))).refusal ≡ None →
+    AllByRecursion (λ b. b < 256) bs → (go_on o (contents_from n bs (place_in_order bs place))).refusal ≡ None →
     ((item : Item) → o ≡ Ok (Some item) → Walked bs (place_in_order bs place) (contents_from n bs (place_in_order bs place))) →
     Walked bs place (go_on o (contents_from n bs (place_in_order bs place)))
 walk_by bs place n (Err e) h small none more = impossible (cc)
@@ -82,7 +82,7 @@ walk_by bs place n (Ok (Some item)) h small none more =
     let next = s.next in
     (s.bytes ∙ ap (λ (ys : List ℕ). bytes_of item ++ ys) m.0, (s.fits, subst (λ (p : ℕ). LawfulFrom p (contents_from n bs (place_in_order bs place)).items) next m.1))
 
-walk : (n : ℕ) (bs : List ℕ) (place : ℕ) → All (λ b. b < 256) bs → length bs < place + n → place ≤ length bs →
+walk : (n : ℕ) (bs : List ℕ) (place : ℕ) → AllByRecursion (λ b. b < 256) bs → length bs < place + n → place ≤ length bs →
     (contents_from n bs place).refusal ≡ None → Walked bs place (contents_from n bs place)
 walk zero bs place small far inside none = absurd (omega arith)
 walk (suc n) bs place small far inside none =
@@ -103,7 +103,7 @@ some_there : (n : ℕ) (bs : List ℕ) → 0 < n → (contents_from n bs 1).refu
 some_there zero bs p none = absurd (omega arith)
 some_there (suc n) bs p none = some_by bs (contents_from n bs (place_in_order bs 1)) (ordered_at bs 1) refl none
 
-rewritten_by : (o : Option Refusal) (bytes : List ℕ) (items : List Item) → open_refusal bytes ≡ o → All (λ b. b < 256) bytes →
+rewritten_by : (o : Option Refusal) (bytes : List ℕ) (items : List Item) → open_refusal bytes ≡ o → AllByRecursion (λ b. b < 256) bytes →
     answer (begun o (contents_from (length bytes) bytes 1)).refusal (begun o (contents_from (length bytes) bytes 1)).items ≡ Ok items →
     (file_of items ≡ bytes) × Lawful items
 rewritten_by (Some e) bytes items fine small h = impossible (cc)
@@ -121,7 +121,7 @@ rewritten_by None bytes items fine small h =
     answered None x y e = (refl, cc)
     answered (Some d) x y e = impossible (cc)
 
-pub rewritten : (bytes : List ℕ) → All (λ b. b < 256) bytes → Rewritten bytes
+pub rewritten : (bytes : List ℕ) → AllByRecursion (λ b. b < 256) bytes → Rewritten bytes
 rewritten bytes small items h = rewritten_by (open_refusal bytes) bytes items refl small h
 
 -- a record that may be written reads back

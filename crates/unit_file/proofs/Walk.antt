@@ -4,7 +4,7 @@ use Rattle.std.proofs.ByRecursion.{All-get_or, All-take, All-drop}
 use Rattle.std.proofs.lemmas.List.{drop-drop, take-append-drop, length-drop, length-take-le}
 use Rattle.std.proofs.lemmas.Bool.{or_parts, ltb-false, eqb-false, leb-true, leb-false, le-leb, ne_eqb, not-false}
 use Rattle.std.proofs.lemmas.Bool.Decides.{nat_tests}
-use Rattle.std.specs.List.{AllByRecursion as All}
+use Rattle.std.specs.List.{AllByRecursion}
 use Rattle.tariff.specs.Limits.{most_file_bytes}
 use Rattle.tariff.specs.Refusals.{answer}
 use Rattle.tariff.specs.declared.refusal.Refusal.{Refusal}
@@ -84,7 +84,7 @@ advances bs place item h =
     (e, omega arith, omega arith)
 
 -- the bytes of a record come back from what it says
-pub bytes_back : (rest : List ℕ) → All (λ b. b < 256) rest → bad_length rest ≡ false → bad_kind (kind_in rest) (fields_in rest) ≡ false →
+pub bytes_back : (rest : List ℕ) → AllByRecursion (λ b. b < 256) rest → bad_length rest ≡ false → bad_kind (kind_in rest) (fields_in rest) ≡ false →
     rest ≡ bytes_of (item_in rest) ++ drop (2 + length_in rest) rest
 bytes_back rest small long known =
     let w = is_whole rest long in

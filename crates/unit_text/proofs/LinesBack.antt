@@ -5,7 +5,7 @@ use Rattle.std.proofs.lemmas.List.{append-nil}
 use Rattle.std.proofs.lemmas.Str.Parse.{IsNumeralModel, numerals_by_fold, tells_all_ascii_digits}
 use Rattle.std.proofs.lemmas.Bool.{and_parts, and_from, le-ltb, or_parts, not_from_false}
 use Rattle.std.proofs.lemmas.Bool.Decides.{nat_tests}
-use Rattle.std.specs.List.{AllByRecursion as All}
+use Rattle.std.specs.List.{AllByRecursion}
 use Rattle.std.specs.Str.{all_ascii_digits}
 use Rattle.unit_file.specs.Records.{Item, header, unit, cost, note, unprintable, bytes_of}
 use Rattle.unit_file.specs.Writing.{bad_note_bytes}
@@ -141,7 +141,7 @@ text_plain (cost r) good w = plain_number r.line 255 _ w.0 byte (plain_number r.
 text_plain (note bytes) good w = plain_note bytes good
 
 -- records of bytes have the widths of their fields
-pub widths : (item : Item) → All (λ b. b < 256) (bytes_of item) → Widths item
+pub widths : (item : Item) → AllByRecursion (λ b. b < 256) (bytes_of item) → Widths item
 widths (header s) a =
     let f = a.1.1.1 in
     let c = f.0 in let d = f.1.1.0 in let z = f.1.1.1.0 in

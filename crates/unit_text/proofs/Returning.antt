@@ -3,7 +3,7 @@ use Rattle.std.proofs.Common.{◌≡◌, ℕ, ◌+◌, ◌-◌, ◌<◌, ◌≤�
 use Rattle.std.proofs.ByRecursion.{All-from_get_or}
 use Rattle.std.proofs.lemmas.List.{append-nil, length-append}
 use Rattle.std.proofs.lemmas.Bool.{and_parts, not-true, or_from, le-ltb, lt-leb}
-use Rattle.std.specs.List.{flat_map, AllByRecursion as All}
+use Rattle.std.specs.List.{flat_map, AllByRecursion}
 use Rattle.tariff.specs.Limits.{most_file_bytes}
 use Rattle.tariff.specs.Refusals.{answer}
 use Rattle.tariff.specs.declared.refusal.Refusal.{Refusal}
@@ -40,7 +40,7 @@ writes place item small long bytes order =
     rw (s, long, k)
 
 compose_lines : (items : List Item) (line : ℕ) (file : List ℕ) → 0 < length file → 0 < length items + (length file - 1) → length file + length (flat_map bytes_of items) ≤ most_file_bytes →
-    LawfulFrom (length file) items → All Widths items → compose_from line file (lines_in (lines_of items)) ≡ Ok (file ++ flat_map bytes_of items)
+    LawfulFrom (length file) items → AllByRecursion Widths items → compose_from line file (lines_in (lines_of items)) ≡ Ok (file ++ flat_map bytes_of items)
 compose_lines [] line file one some small law wide =
     ap (λ (t : Bool). ended (cond t (Some (RecordKind 1)) None) file) (lt-leb (length file) 1 (omega arith)) ∙ ap Ok (sym (append-nil file))
 compose_lines (item ∷ items) line file one some small law wide =
@@ -59,11 +59,11 @@ compose_lines (item ∷ items) line file one some small law wide =
     ∙ rest ∙ ap Ok (append_assoc file b (flat_map bytes_of items))
 
 -- the bytes of each record are bytes of the file
-all_left : (xs ys : List ℕ) → All (λ b. b < 256) (xs ++ ys) → All (λ b. b < 256) xs × All (λ b. b < 256) ys
+all_left : (xs ys : List ℕ) → AllByRecursion (λ b. b < 256) (xs ++ ys) → AllByRecursion (λ b. b < 256) xs × AllByRecursion (λ b. b < 256) ys
 all_left [] ys a = (tt, a)
 all_left (x ∷ xs) ys a = let r = all_left xs ys a.1 in ((a.0, r.0), r.1)
 
-all_widths : (items : List Item) → All (λ b. b < 256) (flat_map bytes_of items) → All Widths items
+all_widths : (items : List Item) → AllByRecursion (λ b. b < 256) (flat_map bytes_of items) → AllByRecursion Widths items
 all_widths [] a = tt
 all_widths (item ∷ items) a = let r = all_left (bytes_of item) (flat_map bytes_of items) a in (widths item r.0, all_widths items r.1)
 
@@ -73,11 +73,11 @@ accepted c items h = by c.refusal c.items h where
   by None is e = let s : is ≡ items = cc in append-nil (lines_of is) ∙ ap lines_of s
   by (Some d) is e = impossible (cc)
 
-pub returns_file : (bytes : List ℕ) → All (λ b. b < 256) bytes → Inverse bytes
+pub returns_file : (bytes : List ℕ) → AllByRecursion (λ b. b < 256) bytes → Inverse bytes
 returns_file bytes small items h =
     let r = rewritten bytes small items h in
     let back = r.0 in let law = r.1 in
-    let a : All (λ b. b < 256) (file_of items) = subst (All (λ b. b < 256)) (sym back) small in
+    let a : AllByRecursion (λ b. b < 256) (file_of items) = subst (AllByRecursion (λ b. b < 256)) (sym back) small in
     let some = law.some in let fits = law.small in
     ap composed (accepted (contents_of bytes) items h)
     ∙ compose_lines items 1 (1 ∷ []) (omega arith) (omega arith) (omega arith) law.each (all_widths items a.1)
@@ -87,7 +87,7 @@ pub restores : (text : List ℕ) (made : Result (List ℕ) Fault) → made ≡ c
 restores text made e bytes items small h same = e ∙ ap composed same ∙ returns_file bytes small items h
 
 -- the bytes at hand, each of which fits a byte
-all_bytes : (bs : List ℕ) → ((i : ℕ) → Fits w8 (get_or bs i 0)) → All (λ b. b < 256) bs
+all_bytes : (bs : List ℕ) → ((i : ℕ) → Fits w8 (get_or bs i 0)) → AllByRecursion (λ b. b < 256) bs
 all_bytes bs typed = All-from_get_or (λ b. b < 256) bs 0 (λ i l. omega (arith, typed i))
 
 pub rewrites : (bs : List ℕ) → ((i : ℕ) → Fits w8 (get_or bs i 0)) → Rewritten bs

@@ -11,7 +11,7 @@
 --                 file, then that file was made
 --   reason_words, fault_words   a reason and a fault as a user reads them
 use Rattle.std.specs.Prelude.{◌≡◌, ℕ, ◌+◌, ◌<◌, cond, List, [], ◌∷◌, ◌++◌, length, Some, None, Ok, Err, vec_items, codes, decimal, Option, Result, Vec, ◌==◌}
-use Rattle.std.specs.List.{AllByRecursion as All}
+use Rattle.std.specs.List.{AllByRecursion}
 use Rattle.std.specs.declared.alloc.Global.{Global}
 use Rattle.tariff.specs.Refusals.{words}
 use Rattle.tariff.specs.Limits.{most_file_bytes}
@@ -64,7 +64,7 @@ abbrev pub Inverse : List ℕ → Type 0
 Inverse bytes = (items : List Item) → records_of bytes ≡ Ok items → composed (listing bytes) ≡ Ok bytes
 
 abbrev pub Restored : List ℕ → Result (List ℕ) Fault → Type 0
-Restored text made = (bytes : List ℕ) (items : List Item) → All (λ b. b < 256) bytes → records_of bytes ≡ Ok items → text ≡ listing bytes → made ≡ Ok bytes
+Restored text made = (bytes : List ℕ) (items : List Item) → AllByRecursion (λ b. b < 256) bytes → records_of bytes ≡ Ok items → text ≡ listing bytes → made ≡ Ok bytes
 
 abbrev pub reason_words : Reason → List ℕ
 reason_words NotARecord = codes "not the line of a record, or a number is too large"

@@ -1,5 +1,5 @@
 use Rattle.std.proofs.Common.{◌≡◌, ◌<◌, length, get_or, sum, sym, refl, ap, ◌∙◌, subst, arith}
-use Rattle.std.specs.List.{AllByRecursion as All}
+use Rattle.std.specs.List.{AllByRecursion}
 use Rattle.tariff.specs.declared.rows.UnitRow.{UnitRow}
 use Rattle.sharing.specs.Rule.{share_refusal}
 use Rattle.bill_rules.specs.Bill.{units_in, counted, shares}
@@ -8,7 +8,7 @@ use Rattle.billing.proofs.charges.share_cell.Goals as goal
 
 pub fill_units-requires : goal.fill_units-requires
 fill_units-requires g c = record {
-  known = subst (λ n. All (λ (u : UnitRow). u.customer < n) c.args.basis.units.now) (sym c.requires.places.1) c.requires.sound.customers_known;
+  known = subst (λ n. AllByRecursion (λ (u : UnitRow). u.customer < n) c.args.basis.units.now) (sym c.requires.places.1) c.requires.sound.customers_known;
   small = c.requires.sound.units_fit;
 }
 

@@ -1,5 +1,5 @@
 use Rattle.std.proofs.Common.{◌≡◌, ◌<◌, cond, length, get_or, Some, None, sum, sym, refl, ap, ◌∙◌, subst, arith}
-use Rattle.std.specs.List.{AllByRecursion as All}
+use Rattle.std.specs.List.{AllByRecursion}
 use Rattle.std.proofs.lemmas.Bool.{lt-ltb, le-ltb}
 use Rattle.tariff.specs.declared.refusal.Refusal.TheVariants.{StationChargesTooLarge}
 use Rattle.tariff.specs.declared.rows.UnitRow.{UnitRow}
@@ -15,8 +15,8 @@ use Rattle.billing.proofs.stations.credit_day.Goals as goal
 
 pub fill_both-requires : goal.fill_both-requires
 fill_both-requires g c = record {
-  known = subst (λ n. All (λ (u : UnitRow). u.customer < n) c.args.basis.units.now) (sym c.requires.work_places.0) c.requires.sound.customers_known;
-  other_known = subst (λ n. All (λ (u : UnitRow). u.customer < n) c.args.basis.units.now) (sym c.requires.work_places.1) c.requires.sound.customers_known;
+  known = subst (λ n. AllByRecursion (λ (u : UnitRow). u.customer < n) c.args.basis.units.now) (sym c.requires.work_places.0) c.requires.sound.customers_known;
+  other_known = subst (λ n. AllByRecursion (λ (u : UnitRow). u.customer < n) c.args.basis.units.now) (sym c.requires.work_places.1) c.requires.sound.customers_known;
   small = c.requires.sound.units_fit;
 }
 
