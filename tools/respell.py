@@ -104,7 +104,7 @@ def main():
     look = '--look' in sys.argv
     words, members = own_names()
     turned = {n: spelled(n) for n in words | members if spelled(n) != n}
-    turned.update({n: new for (_, n), new in APART.items() if n not in turned or '-' in n})
+    turned.update({n: spelled(n) for _, n in APART})
     if look:
         fall_together(words | members, turned)
     for path in files('.antt', '.rt'):

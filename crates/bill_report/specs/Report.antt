@@ -1,8 +1,8 @@
 -- What the program `bill` answers to a line, a rule and a unit file.
---   meaning_of, rule_word   the two rules by their names
+--   meaning_of, rule_word  the two rules by their names
 --   charge_word            the head of the charge column: on line 7 what customers receive
 --   net_of                 charge and station charge less credit
---   row_text, row_of        a row of the table, and that of one customer
+--   row_text, row_of       a row of the table, and that of one customer
 --   head_of                what stands before the rows
 --   sum_text               the totals
 --   balance_text           the balance against the costs

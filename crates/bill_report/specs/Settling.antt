@@ -6,8 +6,8 @@
 --   loaded_in     a state after contributor 0 was admitted to load a file
 --   frozen_after  a state that is frozen
 --   settled_in    a book that is opened with some sizes and tables, loaded, and frozen
---   room         how many rows a table has: no row of a file takes fewer than 11 bytes
---   settled      the settled book of a file and its sizes, with tables of free rows
+--   room          how many rows a table has: no row of a file takes fewer than 11 bytes
+--   settled       the settled book of a file and its sizes, with tables of free rows
 use Rattle.std.specs.Prelude.{ℕ, ◌/◌, List, length, replicate, Some, None, Ok, Err, Option, Result}
 use Rattle.tariff.specs.declared.refusal.Refusal.{Refusal}
 use Rattle.tariff.specs.declared.rows.Sizes.{Sizes}

@@ -1,9 +1,9 @@
 -- What the code holds, by its values.
 --   left           the state that a call leaves, or its refusal
---   left_frozen     a frozen book with its tables, or the refusal
---   shown_settled   a settled book with its tables, or the refusal
---   shown_figured   the figures of a bill, or the refusal
---   shown_report    whether the bill was accepted, and the bytes of the answer
+--   left_frozen    a frozen book with its tables, or the refusal
+--   shown_settled  a settled book with its tables, or the refusal
+--   shown_figured  the figures of a bill, or the refusal
+--   shown_report   whether the bill was accepted, and the bytes of the answer
 use Rattle.std.specs.Prelude.{ℕ, Bool, List, Ok, Err, vec_items, string_bytes, Result}
 use Rattle.tariff.specs.declared.refusal.Refusal.{Refusal}
 use Rattle.tariff.specs.declared.rows.UnitRow.{UnitRow}

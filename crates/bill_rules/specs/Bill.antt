@@ -1,20 +1,20 @@
 -- The bill of a line, from a rule's meaning and the rows of a book.
---   units_of, units_in      a customer's units of some uses in a cell, and those of each customer
---   Figures               what a bill comes to
---   pool, counted         the costs of a cell, and each customer's counted units
---   share_of               what a customer is charged of a cell
---   short_of, stranded_of   what a cell leaves of its pool: with units, and without
---   station_charge         what station units are charged of a day's costs
---   station_units, station_of   a customer's station units of an area and day, and its station charge
---   recovered             R, the station charges of all customers
---   credit_of, over_of      what a customer is credited of R, and R less the credits
---   column                one figure a customer, added up over some cells
---   figures               the figures of a line
---   Lengths, misfit       the places of the three columns, and whether they are not one a customer
---   too_large              the tests of R, in the order of areas and then days
---   bill_refusal           when a bill is refused
---   bill                  the bill: the first refusal, or the figures
---   told, column_after     what a bill answers beside its columns, and what it leaves in one
+--   units_of, units_in         a customer's units of some uses in a cell, and those of each customer
+--   Figures                    what a bill comes to
+--   pool, counted              the costs of a cell, and each customer's counted units
+--   share_of                   what a customer is charged of a cell
+--   short_of, stranded_of      what a cell leaves of its pool: with units, and without
+--   station_charge             what station units are charged of a day's costs
+--   station_units, station_of  a customer's station units of an area and day, and its station charge
+--   recovered                  R, the station charges of all customers
+--   credit_of, over_of         what a customer is credited of R, and R less the credits
+--   column                     one figure a customer, added up over some cells
+--   figures                    the figures of a line
+--   Lengths, misfit            the places of the three columns, and whether they are not one a customer
+--   too_large                  the tests of R, in the order of areas and then days
+--   bill_refusal               when a bill is refused
+--   bill                       the bill: the first refusal, or the figures
+--   told, column_after         what a bill answers beside its columns, and what it leaves in one
 use Rattle.std.specs.Prelude.{ℕ, ◌*◌, ◌/◌, Bool, cond, not, ◌&&◌, ◌||◌, List, [], ◌∷◌, ◌++◌, map, ℤ, pos, ◌+ℤ◌, ◌-ℤ◌, is_some, Some, None, Ok, Err, fold, sum_by, sum, Option, Result, ◌==◌, nat_lt, slice_index}
 use Rattle.std.specs.List.{range_with_len}
 use Rattle.tariff.specs.declared.refusal.Refusal.{Refusal}

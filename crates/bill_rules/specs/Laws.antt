@@ -1,10 +1,10 @@
 -- What holds of every bill, under every rule that keeps the laws of sharing.
---   Balanced         charges + station charges − credits + short − over + stranded is all costs of the line
---   Near             a figure is less than one cent from C × units ÷ T, and 0 where T is 0
---   Close            each share, station charge and credit is near its exact fraction
---   LawfulRows       no row of either table is unlawful, by a field or by the sum up to it
---   AgreeOn, Agree   two sets of rows agree on a line
---   LawsOfBilling  accepted bills balance and are close, and rows that agree are billed alike
+--   Balanced        charges + station charges − credits + short − over + stranded is all costs of the line
+--   Near            a figure is less than one cent from C × units ÷ T, and 0 where T is 0
+--   Close           each share, station charge and credit is near its exact fraction
+--   LawfulRows      no row of either table is unlawful, by a field or by the sum up to it
+--   AgreeOn, Agree  two sets of rows agree on a line
+--   LawsOfBilling   accepted bills balance and are close, and rows that agree are billed alike
 use Rattle.std.specs.Prelude.{◌≡◌, ℕ, ◌+◌, ◌*◌, ◌<◌, List, ℤ, pos, ◌+ℤ◌, ◌-ℤ◌, Some, None, Ok, sum, Option}
 use Rattle.std.specs.List.{AllByRecursion}
 use Rattle.tariff.specs.declared.rows.Sizes.{Sizes}

@@ -1,14 +1,14 @@
 -- What the parts of a bill's calculation ask and leave.
---   Adds     a column after something was added at each of its places
---   Rises    a column of which no figure rose by more than a most
---   Upto     no figure of a column is above a most
---   OnAxis   a value of a field: 0 where the line does not need the field, and only there
---   Proper   an area and a day that the line can have costs for
---   charged_in, stranded_in   what a customer is charged of some cells, and what of them is stranded
+--   Adds                     a column after something was added at each of its places
+--   Rises                    a column of which no figure rose by more than a most
+--   Upto                     no figure of a column is above a most
+--   OnAxis                   a value of a field: 0 where the line does not need the field, and only there
+--   Proper                   an area and a day that the line can have costs for
+--   charged_in, stranded_in  what a customer is charged of some cells, and what of them is stranded
 --   Credited what the station part of some areas and days has added to its two columns
---   line_figures  the figures of a line, or the first R that is too large
+--   line_figures             the figures of a line, or the first R that is too large
 --   Billable what is known of rows and columns that are not refused
---   Sound    what the calculation knows of a book's sizes and lawful rows
+--   Sound                    what the calculation knows of a book's sizes and lawful rows
 use Rattle.std.specs.Prelude.{◌≡◌, ℕ, ◌+◌, ◌<◌, ◌≤◌, Bool, true, false, List, length, Some, sum_by, Result, slice_index}
 use Rattle.std.specs.List.{AllByRecursion}
 use Rattle.tariff.specs.declared.refusal.Refusal.{Refusal}

@@ -99,10 +99,10 @@ pub fn line_bill<R: SharingRule>(
     stations: &mut [u64],
     credits: &mut [u64],
 ) -> Result<Remainders, Refusal>
-    ensures answers { result ≡ told (bill (R.meaning rule.old) line (sizes_of sizes.now) units.now costs.now (record { charges = length charges.entry.now; stations = length stations.old; credits = length credits.old })) }
-    ensures charges { charges.exit.now ≡ column_after (bill (R.meaning rule.old) line (sizes_of sizes.now) units.now costs.now (record { charges = length charges.entry.now; stations = length stations.old; credits = length credits.old })) (λ f. f.charges) charges.entry.now }
-    ensures stations { stations.new ≡ column_after (bill (R.meaning rule.old) line (sizes_of sizes.now) units.now costs.now (record { charges = length charges.entry.now; stations = length stations.old; credits = length credits.old })) (λ f. f.stations) stations.old }
-    ensures credits { credits.new ≡ column_after (bill (R.meaning rule.old) line (sizes_of sizes.now) units.now costs.now (record { charges = length charges.entry.now; stations = length stations.old; credits = length credits.old })) (λ f. f.credits) credits.old }
+    ensures answers { result ≡ told (bill (R.meaning rule.old) line (sizes_of sizes.now) units.now costs.now (record { charges = length charges.old; stations = length stations.old; credits = length credits.old })) }
+    ensures charges { charges.new ≡ column_after (bill (R.meaning rule.old) line (sizes_of sizes.now) units.now costs.now (record { charges = length charges.old; stations = length stations.old; credits = length credits.old })) (λ f. f.charges) charges.old }
+    ensures stations { stations.new ≡ column_after (bill (R.meaning rule.old) line (sizes_of sizes.now) units.now costs.now (record { charges = length charges.old; stations = length stations.old; credits = length credits.old })) (λ f. f.stations) stations.old }
+    ensures credits { credits.new ≡ column_after (bill (R.meaning rule.old) line (sizes_of sizes.now) units.now costs.now (record { charges = length charges.old; stations = length stations.old; credits = length credits.old })) (λ f. f.credits) credits.old }
     ensures balance { IfOk result (λ x. Balanced (sum charges.new) (sum stations.new) (sum credits.new) x.short x.over x.stranded (line_costs line costs.now)) }
     ensures closeness { (l : Line) → line_of line ≡ Some l → Close (R.meaning rule.old) l (sizes_of sizes.now) units.now costs.now }
     ensures means { R.meaning rule.new ≡ R.meaning rule.old }

@@ -1,18 +1,18 @@
 -- Loading a unit file into an open book: the posts and costs that it makes, and what it reports.
---   report_number    the refusal's number, 0 if there is none
+--   report_number   the refusal's number, 0 if there is none
 --   Loading         the calls that a load makes, and its report
 --   reported        a report: the rows posted, the refusal if any, the byte place reached, who refused
 --   stopped, whole  a load that stops, and one that comes to the end of its file
---   refusal_in       the refusal that an answer gives
---   call_for         the call that a record asks for: a unit row is posted, a cost row added, a note skipped
---   load_from        a load from a place of the file on, of at most so many records, after so many rows
+--   refusal_in      the refusal that an answer gives
+--   call_for        the call that a record asks for: a unit row is posted, a cost row added, a note skipped
+--   load_from       a load from a place of the file on, of at most so many records, after so many rows
 --   Took            what one record does to a book, and how many rows it posts
 --   Done            a load has reported, and left a state, as a definition says
---   same_sizes       a file's sizes are the book's
---   load_refusal     what refuses a load before any byte is read: the tables, and then the pass
---   header_in        the sizes in the first record, which has to be the header
---   load_header      a load from its first record on: the header, with the book's sizes
---   load_of          a load
+--   same_sizes      a file's sizes are the book's
+--   load_refusal    what refuses a load before any byte is read: the tables, and then the pass
+--   header_in       the sizes in the first record, which has to be the header
+--   load_header     a load from its first record on: the header, with the book's sizes
+--   load_of         a load
 use Rattle.std.specs.Prelude.{◌≡◌, ℕ, zero, suc, ◌+◌, Bool, cond, not, ◌&&◌, ◌||◌, List, [], ◌∷◌, length, Some, None, Ok, Err, Option, Result, ◌==◌}
 use Rattle.tariff.specs.declared.refusal.Refusal.{Refusal}
 use Rattle.tariff.specs.declared.refusal.Refusal.TheVariants.{TableUnfit, PassNotValid, FieldOutOfRange, RecordKind}

@@ -1,6 +1,6 @@
 -- The book and the passes of the code, as the machine's.
 --   numbers_of              the numbers of a book
---   open_book, frozen_book   the book in an open and in a frozen one
+--   open_book, frozen_book  the book in an open and in a frozen one
 --   pass_of                 what a pass says
 use Rattle.lines.specs.Checked.{sizes_of}
 use Rattle.book_rules.specs.Machine.{Book, Pass}

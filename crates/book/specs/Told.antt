@@ -1,6 +1,6 @@
 -- What the calls of the code give back, as answers of the machine.
---   told, told_pass, told_row   an answer without a value, with a pass, with a row number
---   frozen                    a freeze: the frozen book, or the refusal with the open book
+--   told, told_pass, told_row  an answer without a value, with a pass, with a row number
+--   frozen                     a freeze: the frozen book, or the refusal with the open book
 --   told_book                  the book that opening gives
 --   told_figures               a bill: what it answers and what it leaves in the columns, or the refusal
 use Rattle.std.specs.Prelude.{ℕ, List, Ok, Err, Result}

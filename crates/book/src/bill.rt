@@ -36,10 +36,10 @@ impl FrozenBook {
         stations: &mut [u64],
         credits: &mut [u64],
     ) -> Result<Remainders, Refusal>
-        ensures answers { (law : Lawful (R.meaning rule.old)) (marks : List ℕ) → step (closed (frozen_book self.now) units.now costs.now marks) (bill (record { meaning = R.meaning rule.old; lawful = law }) line (record { charges = length charges.entry.now; stations = length stations.old; credits = length credits.old })) ≡ record { state = closed (frozen_book self.now) units.now costs.now marks; answer = told_figures result charges.exit.now stations.new credits.new } }
-        ensures charges { charges.exit.now ≡ column_after (book_bill (R.meaning rule.old) line (frozen_book self.now) units.now costs.now (record { charges = length charges.entry.now; stations = length stations.old; credits = length credits.old })) (λ f. f.charges) charges.entry.now }
-        ensures stations { stations.new ≡ column_after (book_bill (R.meaning rule.old) line (frozen_book self.now) units.now costs.now (record { charges = length charges.entry.now; stations = length stations.old; credits = length credits.old })) (λ f. f.stations) stations.old }
-        ensures credits { credits.new ≡ column_after (book_bill (R.meaning rule.old) line (frozen_book self.now) units.now costs.now (record { charges = length charges.entry.now; stations = length stations.old; credits = length credits.old })) (λ f. f.credits) credits.old }
+        ensures answers { (law : Lawful (R.meaning rule.old)) (marks : List ℕ) → step (closed (frozen_book self.now) units.now costs.now marks) (bill (record { meaning = R.meaning rule.old; lawful = law }) line (record { charges = length charges.old; stations = length stations.old; credits = length credits.old })) ≡ record { state = closed (frozen_book self.now) units.now costs.now marks; answer = told_figures result charges.new stations.new credits.new } }
+        ensures charges { charges.new ≡ column_after (book_bill (R.meaning rule.old) line (frozen_book self.now) units.now costs.now (record { charges = length charges.old; stations = length stations.old; credits = length credits.old })) (λ f. f.charges) charges.old }
+        ensures stations { stations.new ≡ column_after (book_bill (R.meaning rule.old) line (frozen_book self.now) units.now costs.now (record { charges = length charges.old; stations = length stations.old; credits = length credits.old })) (λ f. f.stations) stations.old }
+        ensures credits { credits.new ≡ column_after (book_bill (R.meaning rule.old) line (frozen_book self.now) units.now costs.now (record { charges = length charges.old; stations = length stations.old; credits = length credits.old })) (λ f. f.credits) credits.old }
         ensures lawful { Lawful (R.meaning rule.old) }
         ensures means { R.meaning rule.new ≡ R.meaning rule.old }
     {

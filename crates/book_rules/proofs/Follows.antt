@@ -268,9 +268,9 @@ billed_ok : (r : Result Figures Refusal) (f : Figures) → told_bill r ≡ bille
 billed_ok (Ok g) f e = cc
 billed_ok (Err x) f e = let q : ◌≡◌ {A = ℕ} 0 1 = cc in absurd (omega arith)
 
-module _ (s : State) (no_units_share : s.book.units ≡ 0) (no-costs : s.book.costs ≡ 0) where
+module _ (s : State) (no_units : s.book.units ≡ 0) (no_costs : s.book.costs ≡ 0) where
   reached : (calls : List Call) → Inv s.book.sizes (past s calls) (final s calls)
-  reached calls = fine_run s.book.sizes calls [] s (start s no_units_share no-costs)
+  reached calls = fine_run s.book.sizes calls [] s (start s no_units no_costs)
 
   pub rows_lawful : (calls : List Call) → LawfulRows s.book.sizes (units_in (past s calls)) (costs_in (past s calls))
   rows_lawful calls = lawful_rows s.book.sizes (units_in (past s calls)) (costs_in (past s calls)) (reached calls).sound

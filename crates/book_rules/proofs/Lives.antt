@@ -36,7 +36,7 @@ same_lengths z p q f g =
     ∙ ap (λ x. lengths_of q.charges x p.credits) (f.stations_fit ∙ sym g.stations_fit)
     ∙ ap (λ x. lengths_of q.charges q.stations x) (f.credits_fit ∙ sym g.credits_fit)
 
-module _ (s t : State) (no_units_share : s.book.units ≡ 0) (no-costs : s.book.costs ≡ 0) (no-units' : t.book.units ≡ 0) (no-costs' : t.book.costs ≡ 0) where
+module _ (s t : State) (no_units : s.book.units ≡ 0) (no_costs : s.book.costs ≡ 0) (no_units' : t.book.units ≡ 0) (no_costs' : t.book.costs ≡ 0) where
   alike : Alike s t
   alike before before' rule n p p' sizes _ _ on on' fits fits' agree =
       let z = s.book.sizes in
@@ -44,19 +44,19 @@ module _ (s t : State) (no_units_share : s.book.units ≡ 0) (no-costs : s.book.
       let cs = costs_in (past s before) in
       let us' = units_in (past t before') in
       let cs' = costs_in (past t before') in
-      let lawful' : LawfulRows z us' cs' = subst (λ (x : Sizes). LawfulRows x us' cs') (sym sizes) (rows_lawful t no-units' no-costs' before') in
+      let lawful' : LawfulRows z us' cs' = subst (λ (x : Sizes). LawfulRows x us' cs') (sym sizes) (rows_lawful t no_units' no_costs' before') in
       let fits-z : misfit z p' ≡ false = ap (λ (x : Sizes). misfit x p') sizes ∙ fits' in
       let lengths : p ≡ p' = same_lengths z p p' (fitting z p fits) (fitting z p' fits-z) in
-      bill_follows s no_units_share no-costs before rule n p on
-      ∙ ap told_bill (laws_of_billing.agreement rule.meaning rule.lawful n z us us' cs cs' p (rows_lawful s no_units_share no-costs before) lawful' agree)
+      bill_follows s no_units no_costs before rule n p on
+      ∙ ap told_bill (laws_of_billing.agreement rule.meaning rule.lawful n z us us' cs cs' p (rows_lawful s no_units no_costs before) lawful' agree)
       ∙ ap (λ (q : Lengths). told_bill (line_bill rule.meaning n z us' cs' q)) lengths
       ∙ ap (λ (x : Sizes). told_bill (line_bill rule.meaning n x us' cs' p')) sizes
-      ∙ sym (bill_follows t no-units' no-costs' before' rule n p' on')
+      ∙ sym (bill_follows t no_units' no_costs' before' rule n p' on')
 
 -- a book without rows, whatever the tables hold, lives by the laws
 pub life : (s : State) → s.book.units ≡ 0 → s.book.costs ≡ 0 → LawsOfALife s
-life s no_units_share no-costs = record {
-  bills_follow_the_rows = follows s no_units_share no-costs;
-  agreeing_books_bill_alike = λ z number units costs marks _. alike s (at_opening z number units costs) no_units_share no-costs refl refl;
+life s no_units no_costs = record {
+  bills_follow_the_rows = follows s no_units no_costs;
+  agreeing_books_bill_alike = λ z number units costs marks _. alike s (at_opening z number units costs) no_units no_costs refl refl;
   a_voided_pass_leaves_no_trace = powerless s;
 }

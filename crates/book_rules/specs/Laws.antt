@@ -1,11 +1,11 @@
 -- The laws of a book's life, over every list of calls that the book offers at their moments,
 -- accepted or refused, and over every sharing rule.
---   past             the history of a list of calls since opening
---   bill_after        what a bill answers after a list of calls
---   Follows          bills follow the rows, balance, and are within a cent
---   Alike            books that agree on a line bill it alike
---   Powerless        a voided pass leaves no trace
---   LawsOfALife   the three, of a book as opening leaves it
+--   past         the history of a list of calls since opening
+--   bill_after   what a bill answers after a list of calls
+--   Follows      bills follow the rows, balance, and are within a cent
+--   Alike        books that agree on a line bill it alike
+--   Powerless    a voided pass leaves no trace
+--   LawsOfALife  the three, of a book as opening leaves it
 use Rattle.std.specs.Prelude.{◌≡◌, ℕ, true, false, List, [], None}
 use Rattle.tariff.specs.declared.rows.Sizes.{Sizes}
 use Rattle.tariff.specs.declared.rows.UnitRow.{UnitRow}

@@ -1,17 +1,17 @@
 -- The book and its passes: when each call is refused, in checking order, and what it changes.
---   Book            the numbers of a book: sizes, own number, counts of rows, last pass number
---   Pass            what a pass says: a book, a contributor, and the number it was given
---   unmarked        the marks are not one for each of the 64 contributors
---   new_book         the book that opening makes
---   open_refusal     the refusals of opening, and so for each call: admit, remove, hand in, take in,
---                   post, add cost, correct, freeze
---   valid           a pass is valid at an open book: it is of this book, and its number is its contributor's mark
---   new_pass         the pass that an admit hands out
---   with..          the book with one number changed
---   with_quantity, corrected   a unit row, and a table, with one quantity changed
---   outstanding     some mark is not 0
---   short_tables     a table has fewer rows than the book counts
---   book_bill        the bill of the rows that the book counts
+--   Book                      the numbers of a book: sizes, own number, counts of rows, last pass number
+--   Pass                      what a pass says: a book, a contributor, and the number it was given
+--   unmarked                  the marks are not one for each of the 64 contributors
+--   new_book                  the book that opening makes
+--   open_refusal              the refusals of opening, and so for each call: admit, remove, hand in, take in,
+--                             post, add cost, correct, freeze
+--   valid                     a pass is valid at an open book: it is of this book, and its number is its contributor's mark
+--   new_pass                  the pass that an admit hands out
+--   with..                    the book with one number changed
+--   with_quantity, corrected  a unit row, and a table, with one quantity changed
+--   outstanding               some mark is not 0
+--   short_tables              a table has fewer rows than the book counts
+--   book_bill                 the bill of the rows that the book counts
 use Rattle.std.specs.Prelude.{ℕ, ◌+◌, Bool, false, cond, not, ◌&&◌, ◌||◌, List, [], ◌∷◌, length, take, Err, Option, Result, ◌==◌, nat_le, nat_lt, slice_index, slice_index_or, slice_set}
 use Rattle.tariff.specs.declared.refusal.Refusal.{Refusal}
 use Rattle.tariff.specs.declared.refusal.Refusal.TheVariants.{SizeOutOfRange, TableUnfit, UnknownContributor, AlreadyAdmitted, PassNumbersUsedUp, NotAdmitted, PassNotValid, FieldOutOfRange, NoSuchRow, TableFull, SumTooLarge, PassOutstanding}

@@ -1,11 +1,11 @@
 -- Passes that a removal has voided.
---   given          the pass that an answer hands out
---   latest         the pass of a contributor's last accepted admit
---   removal        the contributor whom an event has removed
---   voided         an accepted removal has voided the pass: it was that contributor's last accepted admit's
+--   given           the pass that an answer hands out
+--   latest          the pass of a contributor's last accepted admit
+--   removal         the contributor whom an event has removed
+--   voided          an accepted removal has voided the pass: it was that contributor's last accepted admit's
 --   pass_of         the pass that a call is made with
 --   is_void         a call is made with a voided pass
---   struck         a list of calls with every call made with a voided pass struck out
+--   struck          a list of calls with every call made with a voided pass struck out
 --   others_answers  what the other calls answer in the run of the whole list
 use Rattle.std.specs.Prelude.{ℕ, Bool, false, cond, ◌&&◌, ◌||◌, List, [], ◌∷◌, Some, None, Option, ◌==◌}
 use Rattle.book_rules.specs.Machine.{Pass}

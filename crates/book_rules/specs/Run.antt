@@ -1,19 +1,19 @@
 -- A book under any list of calls.
---   State        a book, whether it is frozen, and the caller's tables whole, as the last call left them
---   Call         the ten calls; a bill is asked for by a rule, a line and the lengths of its columns
---   Answer       all that a call gives back
---   Outcome      the state and the answer that a call leaves
---   outcome      a refused call leaves the state as it was
---   offers       whether the book offers a call at the moment: bill, reopen and take in while frozen, the others while open
---   perform      what an offered call does
---   step         one call; the book does not answer a call that it does not offer
---   Offered      each call of a list is one that the book offers at its moment
---   final, answers, history   where a list of calls ends, what each answered, and both as events, the newest first
---   is_accepted   an answer is no refusal
---   units_in, costs_in   the rows of a history: those of the accepted posts and costs, a corrected unit
---                      row with its last accepted quantity
---   opened, closed     an open and a frozen book with any tables
---   at_opening          a book as opening leaves it
+--   State                    a book, whether it is frozen, and the caller's tables whole, as the last call left them
+--   Call                     the ten calls; a bill is asked for by a rule, a line and the lengths of its columns
+--   Answer                   all that a call gives back
+--   Outcome                  the state and the answer that a call leaves
+--   outcome                  a refused call leaves the state as it was
+--   offers                   whether the book offers a call at the moment: bill, reopen and take in while frozen, the others while open
+--   perform                  what an offered call does
+--   step                     one call; the book does not answer a call that it does not offer
+--   Offered                  each call of a list is one that the book offers at its moment
+--   final, answers, history  where a list of calls ends, what each answered, and both as events, the newest first
+--   is_accepted              an answer is no refusal
+--   units_in, costs_in       the rows of a history: those of the accepted posts and costs, a corrected unit
+--                            row with its last accepted quantity
+--   opened, closed           an open and a frozen book with any tables
+--   at_opening               a book as opening leaves it
 use Rattle.std.specs.Prelude.{◌≡◌, ℕ, ◌+◌, Bool, true, false, cond, not, List, [], ◌∷◌, ◌++◌, replicate, Some, None, Ok, Err, Option, Result, slice_set}
 use Rattle.tariff.specs.declared.refusal.Refusal.{Refusal}
 use Rattle.tariff.specs.declared.rows.Sizes.{Sizes}

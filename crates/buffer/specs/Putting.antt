@@ -1,6 +1,6 @@
 -- Writing into a buffer from a place on.
 --   pasted       a buffer with some of its bytes, from a place on, written over
---   put_refusal   why a text is not written at a place of a buffer with so much room
+--   put_refusal  why a text is not written at a place of a buffer with so much room
 use Rattle.std.specs.Prelude.{ℕ, ◌+◌, List, [], ◌∷◌, ◌++◌, length, take, drop, Option, nat_lt}
 use Rattle.tariff.specs.Refusals.{first_of}
 use Rattle.tariff.specs.declared.refusal.Refusal.{Refusal}

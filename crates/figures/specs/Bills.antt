@@ -1,11 +1,11 @@
 -- Bills worked by hand, as theorems of the definitions that the bill's contract cites.
---   three, five          the sizes of two books of one day and one subzone
---   unit, cost           a unit row and a cost row of the first day and subzone
---   evenly               three columns with one place a customer
---   billed               figures from the columns, short, over and stranded
---   hour_of_load         600 and 300 of load, and station power
---   each_use             five customers with 100 units each, of uses 0 to 4
---   WorkedBills         the list
+--   three, five   the sizes of two books of one day and one subzone
+--   unit, cost    a unit row and a cost row of the first day and subzone
+--   evenly        three columns with one place a customer
+--   billed        figures from the columns, short, over and stranded
+--   hour_of_load  600 and 300 of load, and station power
+--   each_use      five customers with 100 units each, of uses 0 to 4
+--   WorkedBills   the list
 use Rattle.std.specs.Prelude.{◌≡◌, ℕ, List, [], ◌∷◌, pos, Ok, Err, Result}
 use Rattle.tariff.specs.declared.refusal.Refusal.{Refusal}
 use Rattle.tariff.specs.declared.refusal.Refusal.TheVariants.{StationChargesTooLarge}

@@ -1,9 +1,9 @@
 -- The figures of passes: one that comes too late, and the last number.
---   one_room        a book just opened, with room for one unit row
+--   one_room       a book just opened, with room for one unit row
 --   load           a unit row of load
---   pass_numbered   the pass of contributor 5 with a number
---   last_but_one     an open book that has given out every pass number but the last
---   WorkedPasses  admit 5, remove 5, admit 5: a post with the first pass is refused, with the second it is row 0;
+--   pass_numbered  the pass of contributor 5 with a number
+--   last_but_one   an open book that has given out every pass number but the last
+--   WorkedPasses   admit 5, remove 5, admit 5: a post with the first pass is refused, with the second it is row 0;
 --                  the last pass number is given out, and the admit after it is refused
 use Rattle.std.specs.Prelude.{◌≡◌, ℕ, [], ◌∷◌, replicate}
 use Rattle.tariff.specs.declared.refusal.Refusal.TheVariants.{UnknownContributor, PassNumbersUsedUp, PassNotValid}

@@ -1,5 +1,5 @@
 -- Figures worked by hand, as theorems of the definitions that the contracts cite.
---   thirds, gaps    the units of the worked pools
+--   thirds, gaps   the units of the worked pools
 --   WorkedShares   a pool of 100 in thirds, by both rules, and a pool of 5 with one customer's units
 --   WorkedFigures  the whole list, with the bills of Bills.antt and the passes of Passes.antt
 use Rattle.std.specs.Prelude.{◌≡◌, ℕ, List, [], ◌∷◌, pos}

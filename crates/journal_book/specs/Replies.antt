@@ -1,11 +1,11 @@
 -- What a journal answers, in the code's words.
---   done_by      what an accepted call without a value is answered
---   rows_of, said_rows   the rows of an accepted bill of a line; nothing for any other answer
---   bill_text    the same by the command that was made
---   rows_reply   what a bill is answered: how many bytes its rows take, or that the buffer is too short
---   reply_for    the reply of a command, with a buffer of so many bytes for the rows of a bill
---   bill_answer  what a frozen book answers to a bill with columns of its own
---   out_after    what the buffer then holds
+--   done_by             what an accepted call without a value is answered
+--   rows_of, said_rows  the rows of an accepted bill of a line; nothing for any other answer
+--   bill_text           the same by the command that was made
+--   rows_reply          what a bill is answered: how many bytes its rows take, or that the buffer is too short
+--   reply_for           the reply of a command, with a buffer of so many bytes for the rows of a bill
+--   bill_answer         what a frozen book answers to a bill with columns of its own
+--   out_after           what the buffer then holds
 use Rattle.std.specs.Prelude.{ℕ, List, [], length, Some, None, Option}
 use Rattle.tariff.specs.declared.refusal.Refusal.{Refusal}
 use Rattle.tariff.specs.declared.rows.CostRow.{CostRow}

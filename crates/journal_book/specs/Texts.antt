@@ -1,9 +1,9 @@
 -- What a journal answers, as text. Each answer ends with a line end.
---   told_text      what a refusal tells, behind its number
---   refusal_text   a refusal: its number, and what it tells
---   reply_words    a reply, with the buffer that the rows of a bill stand in
---   reply_text     the text for a command, with a buffer of so many bytes for the rows of a bill
---   replay_text    the texts for a list of commands
+--   told_text     what a refusal tells, behind its number
+--   refusal_text  a refusal: its number, and what it tells
+--   reply_words   a reply, with the buffer that the rows of a bill stand in
+--   reply_text    the text for a command, with a buffer of so many bytes for the rows of a bill
+--   replay_text   the texts for a list of commands
 --   Within        the rows of a bill stand in a buffer of so many bytes
 use Rattle.std.specs.Prelude.{ℕ, ◌≤◌, List, [], ◌∷◌, ◌++◌, take, codes, decimal}
 use Rattle.tariff.specs.declared.refusal.Refusal.{Refusal}

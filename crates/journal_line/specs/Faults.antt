@@ -1,6 +1,6 @@
 -- The words for a line that says nothing.
 --   usage        what a call takes
---   fault_words   the fault as a user reads it
+--   fault_words  the fault as a user reads it
 use Rattle.std.specs.Prelude.{ℕ, List, codes}
 use Rattle.journal_line.specs.declared.calls.CallName.{CallName}
 use Rattle.journal_line.specs.declared.calls.CallName.TheVariants.{Open, Admit, Remove, HandIn, TakeIn, Post, Correct, Cost, Freeze, Reopen, Bill}

@@ -1,15 +1,15 @@
 -- What a line of a journal says; `text` is what is left of the line.
---   word_ends     a text in which a word ends: it is empty or begins with a space
---   after_first   what follows the first word of a line, if it is this word
---   called, call_in   a call with what follows it; the call that the first word names
---   next_in       the number behind a space, not above a limit, with what follows it
---   last_in       such a number with nothing behind it
---   opening_in, unit_row_in, cost_row_in, rule_in   what stands in the last fields of a line
---   post_in, correct_in, cost_in, bill_in   the fields of the calls that take several
---   fields_in     what a call says with the fields behind it
---   or_fields     what the fields say, or the fault of the call's fields
---   told         what a call says, or the fault of an unknown one
---   line_in       what a line says, or its fault; 35 is `#`
+--   word_ends                                      a text in which a word ends: it is empty or begins with a space
+--   after_first                                    what follows the first word of a line, if it is this word
+--   called, call_in                                a call with what follows it; the call that the first word names
+--   next_in                                        the number behind a space, not above a limit, with what follows it
+--   last_in                                        such a number with nothing behind it
+--   opening_in, unit_row_in, cost_row_in, rule_in  what stands in the last fields of a line
+--   post_in, correct_in, cost_in, bill_in          the fields of the calls that take several
+--   fields_in                                      what a call says with the fields behind it
+--   or_fields                                      what the fields say, or the fault of the call's fields
+--   told                                           what a call says, or the fault of an unknown one
+--   line_in                                        what a line says, or its fault; 35 is `#`
 use Rattle.std.specs.Prelude.{ℕ, cond, List, [], ◌∷◌, Some, None, Ok, Err, codes, Option, Result, ◌==◌}
 use Rattle.journal_line.specs.declared.calls.CallName.{CallName}
 use Rattle.journal_line.specs.declared.calls.CallName.TheVariants.{Open as open_call, Admit as admit_call, Remove as remove_call, HandIn as hand_in_call, TakeIn as take_in_call, Post as post_call, Correct as correct_call, Cost as cost_call, Freeze as freeze_call, Reopen as reopen_call, Bill as bill_call}

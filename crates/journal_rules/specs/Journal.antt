@@ -1,21 +1,21 @@
 -- A journal: commands that are made on a book one by one, with the passes that they were given.
---   Journal       a book with its tables, and the passes given to the journal by their numbers from 1:
---                 a pass, or None once it was handed in or taken in
---   held_pass      the pass of a number, if the journal holds it
---   offers_to      whether a book, frozen or not, offers what a command asks for
---   call_for       the call that a command asks for, unless its pass is not held
---   Reply         what a command is answered: the book's answer, or that its pass is not held
---   pass_number    the pass that a command names
---   place_for      the place of a pass that a call gave, if it gave one
---   held_after     the passes that are held after a call: an accepted admit gives one, and handing in or
---                 taking in, refused or not, ends one
---   Made          the journal and the reply that a command leaves
---   after_call, called   what a call leaves; what a command leaves whose call is known, or its pass not held
---   step_journal   one command; that the book does not offer it is answered before its pass is looked for
---   after, replies   the journal that a list of commands leaves, and what each was answered
---   listed, made_by   the call that a command really makes, if any, as a list
---   calls_of       the calls that a list of commands makes, in order
---   answer_in, answers_in   the answers of the calls that were made: those other than that it is not offered
+--   Journal                a book with its tables, and the passes given to the journal by their numbers from 1:
+--                          a pass, or None once it was handed in or taken in
+--   held_pass              the pass of a number, if the journal holds it
+--   offers_to              whether a book, frozen or not, offers what a command asks for
+--   call_for               the call that a command asks for, unless its pass is not held
+--   Reply                  what a command is answered: the book's answer, or that its pass is not held
+--   pass_number            the pass that a command names
+--   place_for              the place of a pass that a call gave, if it gave one
+--   held_after             the passes that are held after a call: an accepted admit gives one, and handing in or
+--                          taking in, refused or not, ends one
+--   Made                   the journal and the reply that a command leaves
+--   after_call, called     what a call leaves; what a command leaves whose call is known, or its pass not held
+--   step_journal           one command; that the book does not offer it is answered before its pass is looked for
+--   after, replies         the journal that a list of commands leaves, and what each was answered
+--   listed, made_by        the call that a command really makes, if any, as a list
+--   calls_of               the calls that a list of commands makes, in order
+--   answer_in, answers_in  the answers of the calls that were made: those other than that it is not offered
 use Rattle.std.specs.Prelude.{ℕ, ◌-◌, Bool, cond, not, List, [], ◌∷◌, ◌++◌, Some, None, Option, ◌==◌, slice_index_or, slice_set}
 use Rattle.std.specs.Option.{option_map}
 use Rattle.sharing.specs.Rule.{Rule}

@@ -1,14 +1,14 @@
 -- A journal read line by line.
---   Sitting      how far it has come: not opened, an opening that was refused, or a journal
---   Answered     what a line leaves, and its answer: a text, or why the line is out of form
---   answered, faulted   a line with an answer, and one out of form, which leaves all as it was
---   by_opening    the line that opens the book: the first call, and only once
---   by_call       any other call; without a book none is offered
---   without_end   a line without its line end
---   line_step     one line
---   Answers      what the code's call leaves and tells
---   Told         what is told of a line, and the text that it was appended to
---   Interrupted  for want of memory the line was not made, or its answer was not told
+--   Sitting            how far it has come: not opened, an opening that was refused, or a journal
+--   Answered           what a line leaves, and its answer: a text, or why the line is out of form
+--   answered, faulted  a line with an answer, and one out of form, which leaves all as it was
+--   by_opening         the line that opens the book: the first call, and only once
+--   by_call            any other call; without a book none is offered
+--   without_end        a line without its line end
+--   line_step          one line
+--   Answers            what the code's call leaves and tells
+--   Told               what is told of a line, and the text that it was appended to
+--   Interrupted        for want of memory the line was not made, or its answer was not told
 use Rattle.std.specs.Prelude.{◌≡◌, ℕ, ◌-◌, cond, ◌⊎◌, List, [], ◌++◌, length, take, replicate, Some, None, Ok, Err, codes, Option, Result, ◌==◌, slice_index}
 use Rattle.std.specs.declared.alloc.AllocError.{AllocError}
 use Rattle.tariff.specs.declared.refusal.Refusal.{Refusal}

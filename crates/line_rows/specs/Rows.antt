@@ -1,14 +1,14 @@
 -- The rows of a statement for one line, from the figures of its bill.
---   field, signed_field   a figure behind a space
---   row_text       a customer's row: line, customer, charge, station charge, credit
---   figureless    all three figures of a customer are 0
---   customer_row   the row of a customer, if it has a figure other than 0
---   sum_text       the row of the line's totals: line, `sum`, the three totals, short, over, stranded
---   line_text      the rows of a line: its customers' in rising order, and the sum
---   text_of        the rows of a bill, or its refusal
---   book_columns   columns with one place for each customer of a book
---   rows_of        the rows of a line's bill of a book, by a rule's meaning, or its refusal
---   text_refusal, text_in   why the rows of a bill are not written at a place of a buffer, and the rows
+--   field, signed_field    a figure behind a space
+--   row_text               a customer's row: line, customer, charge, station charge, credit
+--   figureless             all three figures of a customer are 0
+--   customer_row           the row of a customer, if it has a figure other than 0
+--   sum_text               the row of the line's totals: line, `sum`, the three totals, short, over, stranded
+--   line_text              the rows of a line: its customers' in rising order, and the sum
+--   text_of                the rows of a bill, or its refusal
+--   book_columns           columns with one place for each customer of a book
+--   rows_of                the rows of a line's bill of a book, by a rule's meaning, or its refusal
+--   text_refusal, text_in  why the rows of a bill are not written at a place of a buffer, and the rows
 use Rattle.std.specs.Prelude.{ℕ, Bool, cond, ◌&&◌, List, [], ◌++◌, length, ℤ, Some, Ok, Err, codes, decimal, sum, Option, Result, ◌==◌, slice_index}
 use Rattle.std.specs.List.{range_with_len, flat_map}
 use Rattle.std.specs.Fmt.{signed_decimal}

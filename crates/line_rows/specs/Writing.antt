@@ -1,7 +1,7 @@
 -- What a part of the rows has written.
---   most_row, most_sum, most_line   bytes that a row, a sum row and the rows of a line never pass
---   stationed, most_rows   whether a line has a station part, and bytes that the rows of its accepted bill never pass
---   Wrote   a text stands in a buffer from a place on, and all else of the buffer is as it was
+--   most_row, most_sum, most_line  bytes that a row, a sum row and the rows of a line never pass
+--   stationed, most_rows           whether a line has a station part, and bytes that the rows of its accepted bill never pass
+--   Wrote                          a text stands in a buffer from a place on, and all else of the buffer is as it was
 use Rattle.std.specs.Prelude.{◌≡◌, ℕ, ◌+◌, Bool, false, cond, List, length, is_some, Some, None, Option}
 use Rattle.lines.specs.declared.line.Line.{Line}
 use Rattle.lines.specs.Lines.{line_of}

@@ -135,7 +135,7 @@ pub(crate) fn write_line(
     requires places { (length stations.now ≡ length charges.now) × (length credits.now ≡ length charges.now) × (length charges.now ≤ most_customers) }
     requires small { Upto charges.now (2 ^ 48) × Upto stations.now (2 ^ 48) × Upto credits.now (2 ^ 48) }
     requires room { most_line ≤ length out.old }
-    ensures wrote { Wrote out.old 0 (line_text line (record { charges = charges.entry.now; stations = stations.now; credits = credits.now; short = left.short; over = left.over; stranded = left.stranded })) out.new result }
+    ensures wrote { Wrote out.old 0 (line_text line (record { charges = charges.now; stations = stations.now; credits = credits.now; short = left.short; over = left.over; stranded = left.stranded })) out.new result }
     ensures near { result ≤ most_line }
 {
     let at = write_customers(out, line, charges, stations, credits);

@@ -1,13 +1,13 @@
 -- The cells of a line: one area at one time. 0 stands for the whole state, for all days, for all hours.
---   cell          a cell from its area, day and hour
---   in_area        which subzones belong to an area
---   at_time        which days belong to a day, and hours to an hour, of a cell
---   holds         whether a place lies in a cell
---   axis          the values of a field: 1 to a most where the line needs it, else 0 alone
---   areas, days, hours   those of a line in a book of some sizes
+--   cell                   a cell from its area, day and hour
+--   in_area                which subzones belong to an area
+--   at_time                which days belong to a day, and hours to an hour, of a cell
+--   holds                  whether a place lies in a cell
+--   axis                   the values of a field: 1 to a most where the line needs it, else 0 alone
+--   areas, days, hours     those of a line in a book of some sizes
 --   hour_cells, day_cells  the cells of one area and day, and of one area
---   cells         all cells of a line
---   station_days   each area and day of a line with a station part
+--   cells                  all cells of a line
+--   station_days           each area and day of a line with a station part
 use Rattle.std.specs.Prelude.{ℕ, Bool, true, false, ◌&&◌, ◌||◌, List, [], ◌∷◌, map, Some, None, Option, ◌==◌}
 use Rattle.std.specs.List.{range_with_len, flat_map}
 use Rattle.tariff.specs.declared.rows.Sizes.{Sizes}

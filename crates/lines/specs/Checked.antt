@@ -1,5 +1,5 @@
 -- Sizes that have been checked.
---   sizes_of   the sizes themselves
+--   sizes_of  the sizes themselves
 --   checked   the answer of a check, with the plain sizes
 use Rattle.std.specs.Prelude.{Ok, Err, Result}
 use Rattle.tariff.specs.declared.refusal.Refusal.{Refusal}

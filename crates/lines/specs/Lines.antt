@@ -1,10 +1,10 @@
 -- The lines of the schedule.
---   zonal, dated, timed   whether a line's cost has a subzone, a day, an hour
---   counts                which kinds are meant: a unit row's kind is its use, a cost row's its line
---   line                  a line from its columns in the table
---   schedule              the table of the seven lines
---   look_up                the line of a number in a table
---   line_of                the line of a number in the schedule
+--   zonal, dated, timed  whether a line's cost has a subzone, a day, an hour
+--   counts               which kinds are meant: a unit row's kind is its use, a cost row's its line
+--   line                 a line from its columns in the table
+--   schedule             the table of the seven lines
+--   look_up              the line of a number in a table
+--   line_of              the line of a number in the schedule
 use Rattle.std.specs.Prelude.{ℕ, Bool, true, false, cond, ◌||◌, List, [], ◌∷◌, Some, None, Option, ◌==◌, nat_le}
 use Rattle.lines.specs.declared.line.Area.{Area}
 use Rattle.lines.specs.declared.line.Area.TheVariants.{Subzone, State}

@@ -1,10 +1,10 @@
 -- Which rows a book of some sizes allows.
---   unlawful_unit    a field of a unit row is out of range
---   wrong           a field that a line needs is out of range, or one that it does not need is not 0
---   unlawful_cost    a field of a cost row is not one of its line, or there is no such line
---   unit_fault, cost_fault     the row at a place is unlawful by a field or by the sum up to it
---   unit_faults, cost_faults   the tests of all rows of a table, in their order
---   no_units, no_cost          what stands past the end of a table
+--   unlawful_unit             a field of a unit row is out of range
+--   wrong                     a field that a line needs is out of range, or one that it does not need is not 0
+--   unlawful_cost             a field of a cost row is not one of its line, or there is no such line
+--   unit_fault, cost_fault    the row at a place is unlawful by a field or by the sum up to it
+--   unit_faults, cost_faults  the tests of all rows of a table, in their order
+--   no_units, no_cost         what stands past the end of a table
 use Rattle.std.specs.Prelude.{ℕ, ◌+◌, Bool, true, false, not, ◌||◌, List, map, length, take, Some, None, Option, ◌==◌, nat_le, nat_lt, slice_index_or}
 use Rattle.std.specs.List.{range_with_len}
 use Rattle.tariff.specs.declared.refusal.Refusal.{Refusal}

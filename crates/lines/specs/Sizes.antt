@@ -1,7 +1,7 @@
 -- The sizes that a book can have.
 --   outside        a number is below a least or above a most
 --   unfit          a size is outside its range
---   sizes_refusal   the refusal of sizes that no book can have
+--   sizes_refusal  the refusal of sizes that no book can have
 use Rattle.std.specs.Prelude.{ℕ, Bool, ◌||◌, [], ◌∷◌, Option, nat_lt}
 use Rattle.tariff.specs.declared.refusal.Refusal.{Refusal}
 use Rattle.tariff.specs.declared.refusal.Refusal.TheVariants.{SizeOutOfRange}

@@ -1,12 +1,12 @@
 -- Totals of rows of any kind: those of some kinds that lie in a cell.
---   belongs       a row of this kind at this place is of these kinds and in the cell
---   part          what a row adds to a total
---   total_in       the total of a table of rows
---   unit_place, cost_place    where a row stands
---   cost_in        the costs of a line in a cell
---   line_costs     all costs of a line
+--   belongs                 a row of this kind at this place is of these kinds and in the cell
+--   part                    what a row adds to a total
+--   total_in                the total of a table of rows
+--   unit_place, cost_place  where a row stands
+--   cost_in                 the costs of a line in a cell
+--   line_costs              all costs of a line
 --   all_quantities the quantities of all unit rows
---   alike         the costs that have one limit with a cost row: those of its line in its area on its day
+--   alike                   the costs that have one limit with a cost row: those of its line in its area on its day
 use Rattle.std.specs.Prelude.{ℕ, Bool, cond, ◌&&◌, List, sum_by}
 use Rattle.tariff.specs.declared.rows.UnitRow.{UnitRow}
 use Rattle.tariff.specs.declared.rows.CostRow.{CostRow}

@@ -1,10 +1,10 @@
 -- Reading a text from its front; `text` is what is left of it.
---   bind, or_else      go on with what was read, or stop; or try the next form
---   after_word         what follows a word, if the text begins with it
---   is_digit, on_digits   the number of the digits at the front, with what follows them
---   number_in          such a number, of one digit at least and not above a limit
---   field_in           a word and the number behind it
---   at_end             a value, if the text is at its end
+--   bind, or_else        go on with what was read, or stop; or try the next form
+--   after_word           what follows a word, if the text begins with it
+--   is_digit, on_digits  the number of the digits at the front, with what follows them
+--   number_in            such a number, of one digit at least and not above a limit
+--   field_in             a word and the number behind it
+--   at_end               a value, if the text is at its end
 use Rattle.std.specs.Prelude.{ℕ, ◌+◌, ◌-◌, ◌*◌, Bool, cond, ◌&&◌, List, [], ◌∷◌, Some, None, Option, ◌==◌, nat_le, nat_lt}
 
 abbrev pub bind : {X Y : Type 0} → Option X → (X → Option Y) → Option Y

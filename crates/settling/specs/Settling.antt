@@ -1,16 +1,16 @@
 -- A unit file settled in a book of its own: opened with the file's sizes, loaded through one pass, and
 -- frozen.
 --   file_sizes    the sizes in the first record of a file, which has to be the header
---   Reached      where some calls have led, and the refusal that ended them, if any
+--   Reached       where some calls have led, and the refusal that ended them, if any
 --   goes_on       what comes after a call, unless the call was refused
---   sooner       the first of two refusals
+--   sooner        the first of two refusals
 --   loaded_with   the load of a file with a pass, which is handed in behind it
 --   loaded_in     contributor 0 is admitted to load a file
 --   frozen_after  the book is frozen, unless there was a refusal
---   Settlement   the frozen book or the refusal, and what the tables then hold
---   settlement   a file settled with some sizes and tables
---   settled      the frozen book with its tables, or the refusal
---   left, leaves   what the code's calls leave, in these words
+--   Settlement    the frozen book or the refusal, and what the tables then hold
+--   settlement    a file settled with some sizes and tables
+--   settled       the frozen book with its tables, or the refusal
+--   left, leaves  what the code's calls leave, in these words
 use Rattle.std.specs.Prelude.{ℕ, List, Some, None, Ok, Err, Option, Result}
 use Rattle.tariff.specs.declared.refusal.Refusal.{Refusal}
 use Rattle.tariff.specs.declared.rows.Sizes.{Sizes}

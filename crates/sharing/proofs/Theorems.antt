@@ -9,7 +9,8 @@ use Rattle.std.proofs.lemmas.Bool.{cases_lt}
 use Rattle.sharing.specs.Rule.{Meaning, Lawful}
 use Rattle.sharing.specs.Rules.{down_at, down, reached, running}
 use Rattle.sharing.specs.Theorems.{WithinThePool, LeftIsSmall, GivesAll, GivesNoMore, LawsOfSharing}
-use Rattle.sharing.specs.Laws.{down_lawful, reached_mono}
+use Rattle.sharing.specs.Laws.{down_lawful}
+use Rattle.sharing.proofs.Laws.{reached_mono}
 
 module _ (m : Meaning) (law : Lawful m) where
   -- a share above the pool would be more than a cent from its exact fraction

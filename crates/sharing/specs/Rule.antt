@@ -1,10 +1,10 @@
 -- What a sharing rule is: a pool of cents, shared among customers by their units.
---   Meaning       from a pool and the units of each customer to the share of each
---   Lawful        the laws that every rule keeps
---   Rule          a meaning that keeps them
+--   Meaning        from a pool and the units of each customer to the share of each
+--   Lawful         the laws that every rule keeps
+--   Rule           a meaning that keeps them
 --   share_refusal  when a rule's call is refused, by the pool, the units and the places of the column
---   Division      all that a division of a pool comes to
---   division      what a rule's meaning gives for a pool and units
+--   Division       all that a division of a pool comes to
+--   division       what a rule's meaning gives for a pool and units
 use Rattle.std.specs.Prelude.{◌≡◌, ℕ, ◌+◌, ◌*◌, ◌<◌, not, ◌||◌, List, [], ◌∷◌, length, replicate, pos, ◌-ℤ◌, sum, Option, ◌==◌, nat_lt, slice_index}
 use Rattle.tariff.specs.declared.refusal.Refusal.{Refusal}
 use Rattle.tariff.specs.declared.refusal.Refusal.TheVariants.{RuleInput}

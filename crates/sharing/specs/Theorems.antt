@@ -1,9 +1,9 @@
 -- What follows from the laws, for every rule, and what the two rules add to them.
---   WithinThePool    no share is above the pool
---   LeftIsSmall      the shares together miss the pool by less than a cent for each customer
---   GivesAll          the shares add up to the pool wherever there are units
---   GivesNoMore      the shares together are never above the pool
---   LawsOfSharing    the first two of every meaning that keeps the laws, the third of Running, the last of Down
+--   WithinThePool  no share is above the pool
+--   LeftIsSmall    the shares together miss the pool by less than a cent for each customer
+--   GivesAll       the shares add up to the pool wherever there are units
+--   GivesNoMore    the shares together are never above the pool
+--   LawsOfSharing  the first two of every meaning that keeps the laws, the third of Running, the last of Down
 use Rattle.std.specs.Prelude.{◌≡◌, ℕ, ◌+◌, ◌<◌, ◌≤◌, List, length, sum, slice_index}
 use Rattle.sharing.specs.Rule.{Meaning, Lawful}
 use Rattle.sharing.specs.Rules.{down, running}

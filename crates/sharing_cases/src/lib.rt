@@ -1,8 +1,8 @@
+// Cases at the edges of the sharing rules and of the program `share`.
 #![tactic(auto)]
 
 ghost use Rattle.std.proofs.Common.{rules};
 
-// Cases at the edges of the sharing rules and of the program `share`.
 #[cfg(test)]
 mod tests {
     use share_report::report::report_on;

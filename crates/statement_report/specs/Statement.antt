@@ -1,19 +1,19 @@
 -- The statement of a unit file.
---   unit_room, cost_room   the rows of the two tables: 2,048 and 512
---   settled_file     the settled book of a file and its sizes, with tables of free rows
---   has_costs        a line has costs; the free rows of a cost table hold none
---   line_rows        the rows of a line's bill by Running, none for a line without costs
---   behind          a text behind another, unless one of them is refused; the sooner refusal counts
---   lines_upto       the rows of the lines from 1 on, so many of them
---   most_lines       the number of lines
---   most_bytes       bytes that no statement passes
---   lines_of         the rows of all lines of a settled book, or the first refusal
---   refused_text     the row for a refusal: `refused` and its number
---   text_of          the rows of all lines of a file's settled book, or the first refusal
---   Told            whether the file is accepted, and the text
---   statement_of     what is told of a file
---   Makes           what a call that makes a text leaves in its buffer
---   told            what the call answers beside the text: whether the file is accepted, and the text's length
+--   unit_room, cost_room  the rows of the two tables: 2,048 and 512
+--   settled_file          the settled book of a file and its sizes, with tables of free rows
+--   has_costs             a line has costs; the free rows of a cost table hold none
+--   line_rows             the rows of a line's bill by Running, none for a line without costs
+--   behind                a text behind another, unless one of them is refused; the sooner refusal counts
+--   lines_upto            the rows of the lines from 1 on, so many of them
+--   most_lines            the number of lines
+--   most_bytes            bytes that no statement passes
+--   lines_of              the rows of all lines of a settled book, or the first refusal
+--   refused_text          the row for a refusal: `refused` and its number
+--   text_of               the rows of all lines of a file's settled book, or the first refusal
+--   Told                  whether the file is accepted, and the text
+--   statement_of          what is told of a file
+--   Makes                 what a call that makes a text leaves in its buffer
+--   told                  what the call answers beside the text: whether the file is accepted, and the text's length
 use Rattle.std.specs.Prelude.{◌≡◌, ℕ, zero, suc, ◌+◌, Bool, true, false, cond, List, [], ◌++◌, length, replicate, Ok, Err, codes, decimal, Result, nat_lt}
 use Rattle.tariff.specs.declared.refusal.Refusal.{Refusal}
 use Rattle.tariff.specs.declared.rows.Sizes.{Sizes}

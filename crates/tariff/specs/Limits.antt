@@ -1,10 +1,10 @@
 -- The limits of a book and of its files.
---   most_customers, most_days, most_subzones   the sizes of a book
+--   most_customers, most_days, most_subzones  the sizes of a book
 --   hours_of_day                              the hours of a day
---   most_amount                              the most of a quantity, an amount, a pool, a limited sum
---   contributors                            how many marks a book has
+--   most_amount                               the most of a quantity, an amount, a pool, a limited sum
+--   contributors                              how many marks a book has
 --   last_pass_number                          the last number that a pass can have
---   most_file_bytes, most_note_bytes            the longest file and the longest note
+--   most_file_bytes, most_note_bytes          the longest file and the longest note
 use Rattle.std.specs.Prelude.{ℕ}
 
 abbrev pub most_customers : ℕ

@@ -1,13 +1,13 @@
 -- The refusals.
---   number     the published number of a refusal, 1 to 19
---   reason     its reason in words
---   told       what it tells beside its number
+--   number      the published number of a refusal, 1 to 19
+--   reason      its reason in words
+--   told        what it tells beside its number
 --   table_word  the word for a table
 --   told_words  what is told, as it follows a reason
---   words      the whole line that a user reads
+--   words       the whole line that a user reads
 --   first_of    the first refusal of a list of tests whose test holds: the checking order of a call
---   answer     what a call answers: its refusal, or a value
---   unless     what a call leaves: the old value where it is refused, else the new one
+--   answer      what a call answers: its refusal, or a value
+--   unless      what a call leaves: the old value where it is refused, else the new one
 use Rattle.std.specs.Prelude.{ℕ, Bool, cond, List, [], ◌∷◌, ◌++◌, Some, None, Ok, Err, codes, decimal, Option, Result}
 use Rattle.tariff.specs.declared.refusal.Refusal.{Refusal}
 use Rattle.tariff.specs.declared.refusal.Refusal.TheVariants.{SizeOutOfRange, TableUnfit, UnknownContributor, AlreadyAdmitted, PassNumbersUsedUp, NotAdmitted, PassNotValid, FieldOutOfRange, NoSuchRow, TableFull, SumTooLarge, PassOutstanding, UnlawfulRow, StationChargesTooLarge, RuleInput, NoUnitFile, RecordLength, RecordKind, BufferTooShort}

@@ -1,28 +1,28 @@
 -- Reading a unit file. `rest` is what is left of the file from a record's place on.
---   two_in, four_in         the number in two or in four bytes from an index on
---   length_in              the length that a record states: how many bytes follow its first two
---   kind_in, fields_in      its kind byte, and the bytes after that
---   sizes_in, unit_in, cost_in   what fields say by their kind
---   item_by, item_in        what the fields of a kind say, and so what a record says
---   fits_kind              whether a length is one of a kind; an unknown kind has no length of its own
---   bad_length             cut short, of length 0, or not of its kind's length
---   bad_kind               of an unknown kind, or a note with a byte outside 32 to 126
---   record_refusal         why the record is refused: all of its length, and then its kind
---   record_in              the record, or its refusal
---   some, after           an answer that is there; the place after one that is, else the same place
---   record_at, next_place   what the reader answers at a place of a file, and where it then stands
---   headed, misplaced     the record at place 1 is to be the header, and no other is to be one
---   in_order               an answer, refused where the record is misplaced
---   ordered_at, place_in_order   record_at and next_place where the header's order is looked at too
---   open_refusal           why bytes are no unit file
---   Contents              what a reading of a whole file gives: the records up to the first
---                         refusal, and that refusal if there is one
---   go_on                  one answer, and the contents behind it
---   contents_from          the contents from a place on, of at most so many records
---   begun, contents_of     the contents of a file, none if it is no unit file
---   records_of             a file's records, or the first refusal
---   counted               how many records, or the refusal
---   one_said, said         what a call answered, each record by what it says
+--   two_in, four_in             the number in two or in four bytes from an index on
+--   length_in                   the length that a record states: how many bytes follow its first two
+--   kind_in, fields_in          its kind byte, and the bytes after that
+--   sizes_in, unit_in, cost_in  what fields say by their kind
+--   item_by, item_in            what the fields of a kind say, and so what a record says
+--   fits_kind                   whether a length is one of a kind; an unknown kind has no length of its own
+--   bad_length                  cut short, of length 0, or not of its kind's length
+--   bad_kind                    of an unknown kind, or a note with a byte outside 32 to 126
+--   record_refusal              why the record is refused: all of its length, and then its kind
+--   record_in                   the record, or its refusal
+--   some, after                 an answer that is there; the place after one that is, else the same place
+--   record_at, next_place       what the reader answers at a place of a file, and where it then stands
+--   headed, misplaced           the record at place 1 is to be the header, and no other is to be one
+--   in_order                    an answer, refused where the record is misplaced
+--   ordered_at, place_in_order  record_at and next_place where the header's order is looked at too
+--   open_refusal                why bytes are no unit file
+--   Contents                    what a reading of a whole file gives: the records up to the first
+--                               refusal, and that refusal if there is one
+--   go_on                       one answer, and the contents behind it
+--   contents_from               the contents from a place on, of at most so many records
+--   begun, contents_of          the contents of a file, none if it is no unit file
+--   records_of                  a file's records, or the first refusal
+--   counted                     how many records, or the refusal
+--   one_said, said              what a call answered, each record by what it says
 use Rattle.std.specs.Prelude.{ℕ, zero, suc, ◌+◌, ◌-◌, ◌*◌, Bool, true, false, cond, not, ◌&&◌, ◌||◌, List, [], ◌∷◌, length, take, drop, Some, None, Ok, Err, Option, Result, ◌==◌, nat_le, nat_lt, slice_index}
 use Rattle.std.specs.Option.{option_map}
 use Rattle.tariff.specs.Limits.{most_file_bytes, most_note_bytes}

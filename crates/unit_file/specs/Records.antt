@@ -1,10 +1,10 @@
 -- Records of a unit file, and the bytes that each is written as.
---   Item                  what a record says; a note is its own bytes
+--   Item                   what a record says; a note is its own bytes
 --   item_of                what a record of the program says
 --   is_header              whether it is a header
---   unprintable           whether a note has a byte outside 32 to 126
---   two_bytes, four_bytes   a number, most significant byte first
---   kind_of, fields_of      the kind byte of a record and the bytes that follow it
+--   unprintable            whether a note has a byte outside 32 to 126
+--   two_bytes, four_bytes  a number, most significant byte first
+--   kind_of, fields_of     the kind byte of a record and the bytes that follow it
 --   bytes_of               the whole record: two bytes of length, the kind, the fields
 --   file_of                a whole file: the version byte 1 and the records
 use Rattle.std.specs.Prelude.{ℕ, ◌+◌, ◌/◌, ◌%◌, Bool, true, false, ◌||◌, List, [], ◌∷◌, ◌++◌, length, nat_lt}

@@ -1,12 +1,12 @@
 -- Writing a unit file into a buffer, record by record.
---   bad_note_length, bad_note_bytes   a note of 0 or above 200 bytes, or with a byte outside 32 to 126
---   put_refusal            why a record is not written at a place of a buffer with so much room
---   begin_refusal          why a file cannot be begun in a buffer
---   finish_refusal         why a file cannot end at a place: its header is missing
---   pasted                a buffer with some of its bytes, from a place on, written over
---   LawfulFrom            records that may be written one after another from a place on
---   Lawful                the records of a lawful file: a header and then none, and each well made
---   WrittenAs             a writer at a place has put these records into a buffer, and no others
+--   bad_note_length, bad_note_bytes  a note of 0 or above 200 bytes, or with a byte outside 32 to 126
+--   put_refusal                      why a record is not written at a place of a buffer with so much room
+--   begin_refusal                    why a file cannot be begun in a buffer
+--   finish_refusal                   why a file cannot end at a place: its header is missing
+--   pasted                           a buffer with some of its bytes, from a place on, written over
+--   LawfulFrom                       records that may be written one after another from a place on
+--   Lawful                           the records of a lawful file: a header and then none, and each well made
+--   WrittenAs                        a writer at a place has put these records into a buffer, and no others
 use Rattle.std.specs.Prelude.{◌≡◌, ℕ, ◌+◌, ◌<◌, ◌≤◌, Bool, false, ◌||◌, List, [], ◌∷◌, ◌++◌, length, take, drop, Some, Option, ◌==◌, nat_le, nat_lt}
 use Rattle.tariff.specs.Limits.{most_file_bytes, most_note_bytes}
 use Rattle.tariff.specs.Refusals.{first_of}

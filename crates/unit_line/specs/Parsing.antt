@@ -1,12 +1,12 @@
 -- Reading one line of the text form; `text` is what is left of the line.
---   bind, or_else      go on with what was read, or stop; or try the next form
---   after_word         what follows a word, if the text begins with it
---   is_digit, on_digits   the number of the digits at the front, with what follows them
---   number_in          such a number, of one digit at least and not above a limit
---   field_in           a word and the number behind it
---   at_end             a value, if the text is at its end
---   header_in, unit_in, cost_in   the fields behind the first word of a line
---   item_in            what a line says, if it is the line of a record
+--   bind, or_else                go on with what was read, or stop; or try the next form
+--   after_word                   what follows a word, if the text begins with it
+--   is_digit, on_digits          the number of the digits at the front, with what follows them
+--   number_in                    such a number, of one digit at least and not above a limit
+--   field_in                     a word and the number behind it
+--   at_end                       a value, if the text is at its end
+--   header_in, unit_in, cost_in  the fields behind the first word of a line
+--   item_in                      what a line says, if it is the line of a record
 use Rattle.std.specs.Prelude.{ℕ, ◌+◌, ◌-◌, ◌*◌, Bool, cond, ◌&&◌, List, [], ◌∷◌, Some, None, codes, Option, ◌==◌, nat_le, nat_lt}
 use Rattle.unit_file.specs.Records.{Item, header, unit, cost, note}
 

@@ -1,15 +1,15 @@
 -- Making a unit file of a text.
---   longer, lines_in   a byte before lines, and the lines of a text; the last may lack its line end
---   refused_or, added_by   the bytes that a line adds to a file, or the reason why it adds none
---   go_on          the next line, unless this one is at fault
---   ended         the file as its lines end; a missing header is told at line 1
---   compose_from   the file of lines behind what is written already, the next line's number given
---   composed      the file of a text, or the first fault
---   filed         what a call answered, the file by its bytes
---   Inverse       of a file's bytes: if it is accepted, what is composed of its listing is the file
---   Restored      of a text and what was made of it: if the text is the listing of an accepted
---                 file, then that file was made
---   reason_words, fault_words   a reason and a fault as a user reads them
+--   longer, lines_in           a byte before lines, and the lines of a text; the last may lack its line end
+--   refused_or, added_by       the bytes that a line adds to a file, or the reason why it adds none
+--   go_on                      the next line, unless this one is at fault
+--   ended                      the file as its lines end; a missing header is told at line 1
+--   compose_from               the file of lines behind what is written already, the next line's number given
+--   composed                   the file of a text, or the first fault
+--   filed                      what a call answered, the file by its bytes
+--   Inverse                    of a file's bytes: if it is accepted, what is composed of its listing is the file
+--   Restored                   of a text and what was made of it: if the text is the listing of an accepted
+--                              file, then that file was made
+--   reason_words, fault_words  a reason and a fault as a user reads them
 use Rattle.std.specs.Prelude.{◌≡◌, ℕ, ◌+◌, ◌<◌, cond, List, [], ◌∷◌, ◌++◌, length, Some, None, Ok, Err, vec_items, codes, decimal, Option, Result, Vec, ◌==◌}
 use Rattle.std.specs.List.{AllByRecursion}
 use Rattle.std.specs.declared.alloc.Global.{Global}

@@ -1,8 +1,8 @@
 -- The text form of a unit file: one record a line.
---   text_of      the words and numbers of a record, without the line end
---   line_of      its line
---   lines_of     the lines of records, one behind the other
---   fault_line   the line of the refusal that ends a listing, if one does
+--   text_of     the words and numbers of a record, without the line end
+--   line_of     its line
+--   lines_of    the lines of records, one behind the other
+--   fault_line  the line of the refusal that ends a listing, if one does
 --   listed      the text of contents: their lines, and the refusal
 --   listing     the text of a file
 use Rattle.std.specs.Prelude.{ℕ, List, [], ◌∷◌, ◌++◌, Some, None, codes, decimal, Option}

@@ -5,7 +5,7 @@ use Rattle.tariff.specs.Refusals.{answer, unless}
 use Rattle.tariff.proofs.Refused.{ok_tells, err_tells}
 use Rattle.sharing.specs.declared.Division.{Division}
 use Rattle.sharing.specs.Rule.{share_refusal, division}
-use Rattle.sharing.specs.Laws.{fit_from_none}
+use Rattle.sharing.proofs.Laws.{fit_from_none}
 use Rattle.sharing.proofs.Theorems.{laws_of_sharing}
 use Rattle.sharing.proofs.divide.Goals as goal
 

@@ -1,5 +1,5 @@
 use Rattle.std.proofs.Common.{arith}
-use Rattle.sharing.specs.Laws.{part_le}
+use Rattle.sharing.proofs.Laws.{part_le}
 use Rattle.sharing.proofs.part.Goals as goal
 
 pub overflow_cast-result : goal.overflow_cast-result

@@ -2,7 +2,7 @@ use Rattle.std.proofs.Common.{length, sym, refl, ap, arith}
 use Rattle.std.proofs.lemmas.List.Sums.{get_or-le-sum_by}
 use Rattle.tariff.specs.Refusals.{answer}
 use Rattle.sharing.specs.Rules.{down_at}
-use Rattle.sharing.specs.Laws.{fit_known, filled}
+use Rattle.sharing.proofs.Laws.{fit_known, filled}
 use Rattle.sharing.proofs.DownSharingRule.share.Goals as goal
 
 pub part-requires : goal.part-requires

@@ -3,7 +3,7 @@ use Rattle.std.proofs.lemmas.List.Sums.{sum_by_more, sum_by-take-le}
 use Rattle.std.proofs.lemmas.List.Edits.{fill_by_more}
 use Rattle.tariff.specs.Refusals.{answer}
 use Rattle.sharing.specs.Rules.{running_at, reached}
-use Rattle.sharing.specs.Laws.{fit_known, filled, reached_mono}
+use Rattle.sharing.proofs.Laws.{fit_known, filled, reached_mono}
 use Rattle.sharing.proofs.RunningSharingRule.share.Goals as goal
 
 pub overflow_add-seen : goal.overflow_add-seen
