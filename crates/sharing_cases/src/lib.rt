@@ -1,8 +1,6 @@
 // Cases at the edges of the sharing rules and of the program `share`.
 #![tactic(auto)]
 
-ghost use Rattle.std.proofs.Common.{rules};
-
 #[cfg(test)]
 mod tests {
     use share_report::report::report_on;
@@ -22,7 +20,7 @@ mod tests {
     impl<R: SharingRule> SharingRule for Counted<R> {
         ghost meaning = { λ s. R.meaning s.rule };
 
-        ghost lawful = { Prim.search rules };
+        ghost lawful = { λ s. R.lawful s.rule };
 
         fn share(&mut self, pool: u32, units: &[u32], column: &mut [u32]) -> Result<(), Refusal> {
             self.calls = self.calls.saturating_add(1);
