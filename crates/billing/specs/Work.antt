@@ -5,9 +5,9 @@
 --   OnAxis                   a value of a field: 0 where the line does not need the field, and only there
 --   Proper                   an area and a day that the line can have costs for
 --   charged_in, stranded_in  what a customer is charged of some cells, and what of them is stranded
---   Credited what the station part of some areas and days has added to its two columns
+--   Credited                 what the station part of some areas and days has added to its two columns
 --   line_figures             the figures of a line, or the first R that is too large
---   Billable what is known of rows and columns that are not refused
+--   Billable                 what is known of rows and columns that are not refused
 --   Sound                    what the calculation knows of a book's sizes and lawful rows
 use Rattle.std.specs.Prelude.{◌≡◌, ℕ, ◌+◌, ◌<◌, ◌≤◌, Bool, true, false, List, length, Some, sum_by, Result, slice_index}
 use Rattle.std.specs.List.{AllByRecursion}

@@ -5,7 +5,7 @@
 --   shown_as                      a book with tables and passes
 --   open_journal, frozen_journal  an open and a frozen book with tables and passes
 --   shown_journal                 a journal
---   opening_journal a journal as opening leaves it, with tables of free rows
+--   opening_journal               a journal as opening leaves it, with tables of free rows
 --   told_journal                  the journal that opening gives
 --   rules_for                     the rules that a bill can be asked for by, from what the two given ones mean
 use Rattle.std.specs.Prelude.{ℕ, List, [], map, replicate, Ok, Err, vec_items, Option, Result}

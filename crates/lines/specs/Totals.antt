@@ -5,7 +5,7 @@
 --   unit_place, cost_place  where a row stands
 --   cost_in                 the costs of a line in a cell
 --   line_costs              all costs of a line
---   all_quantities the quantities of all unit rows
+--   all_quantities          the quantities of all unit rows
 --   alike                   the costs that have one limit with a cost row: those of its line in its area on its day
 use Rattle.std.specs.Prelude.{ℕ, Bool, cond, ◌&&◌, List, sum_by}
 use Rattle.tariff.specs.declared.rows.UnitRow.{UnitRow}

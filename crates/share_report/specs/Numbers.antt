@@ -1,10 +1,10 @@
 -- The numbers of a text.
---   BadWord     a word that is no number: its place among the words, from 1, its bytes, and why
---   after       numbers before the numbers of what follows
---   read_words  the numbers that words write, the first of them at place k, or the first bad word
---   numbers_of  the numbers that a text writes, or its first bad word
---   shown_bad   a bad word of the code, by what it holds
---   shown_numbers what the code read, by what it holds
+--   BadWord        a word that is no number: its place among the words, from 1, its bytes, and why
+--   after          numbers before the numbers of what follows
+--   read_words     the numbers that words write, the first of them at place k, or the first bad word
+--   numbers_of     the numbers that a text writes, or its first bad word
+--   shown_bad      a bad word of the code, by what it holds
+--   shown_numbers  what the code read, by what it holds
 use Rattle.std.specs.Prelude.{ℕ, ◌+◌, List, [], ◌∷◌, ◌++◌, Ok, Err, vec_items, Result, Vec}
 use Rattle.text.specs.declared.WordFault.{WordFault}
 use Rattle.share_report.specs.declared.numbers.Misread.{Misread}

@@ -1,17 +1,17 @@
 -- What the program `share` answers to a text.
---   row_text     a row of the table: number, units, share by Down, share by Running
---   row_of       the row of one customer
---   head_of      what stands before the rows
---   sum_text     the row of the sums
---   left_text    the row of what each rule leaves of the pool
---   foot_of      what stands after the rows
---   table_of     the table of a pool and the units of each customer
---   shares_of    the shares of one rule and what they come to, or its refusal
---   shown_word   a word as it is shown again: at most 40 bytes, others than 32 to 126 as `?`
---   bad_word_line the line for a word that is no number
---   empty_line   the line for a text without words
---   refused_line the line for a pool and units that the rules refuse
---   report_of    whether the text is accepted, and what is answered: the table, or one line
+--   row_text       a row of the table: number, units, share by Down, share by Running
+--   row_of         the row of one customer
+--   head_of        what stands before the rows
+--   sum_text       the row of the sums
+--   left_text      the row of what each rule leaves of the pool
+--   foot_of        what stands after the rows
+--   table_of       the table of a pool and the units of each customer
+--   shares_of      the shares of one rule and what they come to, or its refusal
+--   shown_word     a word as it is shown again: at most 40 bytes, others than 32 to 126 as `?`
+--   bad_word_line  the line for a word that is no number
+--   empty_line     the line for a text without words
+--   refused_line   the line for a pool and units that the rules refuse
+--   report_of      whether the text is accepted, and what is answered: the table, or one line
 use Rattle.std.specs.Prelude.{ℕ, Bool, true, false, cond, ◌||◌, List, [], ◌∷◌, ◌++◌, map, length, take, ℤ, Some, None, Ok, Err, codes, decimal, Option, Result, nat_lt, slice_index}
 use Rattle.std.specs.List.{range_with_len, flat_map}
 use Rattle.std.specs.Fmt.{signed_decimal}

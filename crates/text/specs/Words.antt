@@ -1,12 +1,12 @@
 -- The words of a text, and the number that a word writes.
---   blank       a byte between words: a space, a tab, a line feed, a form feed or a carriage return
---   is_run      whether a byte belongs to a run of blanks, or to a run of other bytes
---   words       the words of a text: the longest stretches without a blank, in their order
---   digit       a byte from 0 to 9
---   value_from  the number that digits write after the digits of a number n
---   number_of   the number that a word writes, or why it writes none that fits 32 bits
---   fault_words why a word is no number, in words
---   Next        what the next word of a text is, and what is left after it
+--   blank        a byte between words: a space, a tab, a line feed, a form feed or a carriage return
+--   is_run       whether a byte belongs to a run of blanks, or to a run of other bytes
+--   words        the words of a text: the longest stretches without a blank, in their order
+--   digit        a byte from 0 to 9
+--   value_from   the number that digits write after the digits of a number n
+--   number_of    the number that a word writes, or why it writes none that fits 32 bits
+--   fault_words  why a word is no number, in words
+--   Next         what the next word of a text is, and what is left after it
 use Rattle.std.specs.Prelude.{◌≡◌, ℕ, ◌+◌, ◌-◌, ◌*◌, ◌^◌, ◌<◌, Bool, true, false, cond, not, ◌&&◌, ◌||◌, List, [], ◌∷◌, length, Some, None, Ok, Err, codes, Option, Result, ◌==◌, nat_le, nat_lt}
 use Rattle.std.specs.Borrow.{Bor}
 use Rattle.text.specs.declared.WordFault.{WordFault}
