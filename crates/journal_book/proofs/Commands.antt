@@ -14,7 +14,7 @@ use Rattle.book.specs.declared.states.Pass.{Pass as Token}
 use Rattle.line_rows.specs.Rows.{line_text, text_of, text_refusal, text_in}
 use Rattle.journal_line.specs.declared.calls.Command.{Command}
 use Rattle.journal_line.specs.declared.calls.Command.TheVariants.{Admit, Remove, HandIn, TakeIn, Post, Correct, Cost, Freeze, Reopen, Bill}
-use Rattle.journal_line.specs.declared.calls.RuleName.{RuleName}
+use Rattle.sharing.specs.declared.names.RuleName.{RuleName}
 use Rattle.journal_rules.specs.Journal.{Journal, Reply as Said, Made, answered, offers_to, call_for, called, after_call, step_journal}
 use Rattle.journal_book.specs.declared.replies.Reply.{Reply}
 use Rattle.journal_book.specs.declared.replies.Reply.TheVariants.{NotOffered, Refused}

@@ -15,7 +15,7 @@ use Rattle.book.specs.declared.states.Pass.{Pass as Token}
 use Rattle.journal_line.specs.declared.calls.Command.{Command}
 use Rattle.journal_line.specs.declared.calls.Command.TheVariants.{Admit, Remove, HandIn, TakeIn, Post, Correct, Cost, Freeze, Reopen, Bill}
 use Rattle.journal_line.specs.declared.calls.Opening.{Opening}
-use Rattle.journal_line.specs.declared.calls.RuleName.{RuleName}
+use Rattle.sharing.specs.declared.names.RuleName.{RuleName}
 use Rattle.journal_rules.specs.Journal.{Journal, step_journal}
 use Rattle.journal_rules.specs.Numbered.{Numbered}
 use Rattle.journal_rules.proofs.Numbers.{after_numbered, opening_numbered}

@@ -4,7 +4,7 @@ use Rattle.std.specs.declared.alloc.AllocError.{AllocError}
 use Rattle.sharing.specs.Rule.{Meaning, Lawful, Rule}
 use Rattle.line_rows.specs.Writing.{most_line}
 use Rattle.journal_line.specs.declared.calls.Command.{Command}
-use Rattle.journal_line.specs.declared.calls.RuleName.{RuleName}
+use Rattle.sharing.specs.declared.names.RuleName.{RuleName}
 use Rattle.journal_rules.specs.Journal.{Journal, step_journal, after}
 use Rattle.journal_rules.specs.Numbered.{Numbered}
 use Rattle.journal_rules.proofs.Numbers.{after_numbered}

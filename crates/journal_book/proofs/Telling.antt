@@ -9,7 +9,7 @@ use Rattle.buffer.specs.Putting.{pasted, put_refusal}
 use Rattle.book_rules.specs.Run.{accepted, gave, row, froze, stayed_open, reopened, billed, refused, not_offered}
 use Rattle.journal_line.specs.declared.calls.Command.{Command}
 use Rattle.journal_line.specs.declared.calls.Command.TheVariants.{Admit, Remove, HandIn, TakeIn, Post, Correct, Cost, Freeze, Reopen, Bill}
-use Rattle.journal_line.specs.declared.calls.RuleName.{RuleName}
+use Rattle.sharing.specs.declared.names.RuleName.{RuleName}
 use Rattle.journal_rules.specs.Journal.{Journal, Reply as Said, answered, no_pass, step_journal}
 use Rattle.journal_book.specs.declared.replies.Reply.{Reply}
 use Rattle.journal_book.specs.Answers.{Answers, Leaves, Written}

@@ -6,7 +6,7 @@ use Rattle.std.specs.Prelude.{◌≡◌, ℕ, List, Ok, Err, Result}
 use Rattle.std.specs.declared.alloc.AllocError.{AllocError}
 use Rattle.sharing.specs.Rule.{Rule}
 use Rattle.journal_line.specs.declared.calls.Command.{Command}
-use Rattle.journal_line.specs.declared.calls.RuleName.{RuleName}
+use Rattle.sharing.specs.declared.names.RuleName.{RuleName}
 use Rattle.journal_rules.specs.Journal.{Journal, step_journal}
 use Rattle.journal_book.specs.declared.replies.Reply.{Reply}
 use Rattle.journal_book.specs.Replies.{reply_for, bill_text, out_after}

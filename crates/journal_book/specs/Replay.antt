@@ -9,7 +9,7 @@ use Rattle.std.specs.Prelude.{◌≡◌, ℕ, ◌+◌, ◌≤◌, ◌⊎◌, Lis
 use Rattle.std.specs.declared.alloc.AllocError.{AllocError}
 use Rattle.sharing.specs.Rule.{Rule}
 use Rattle.journal_line.specs.declared.calls.Command.{Command}
-use Rattle.journal_line.specs.declared.calls.RuleName.{RuleName}
+use Rattle.sharing.specs.declared.names.RuleName.{RuleName}
 use Rattle.journal_rules.specs.Journal.{Journal, step_journal, after}
 use Rattle.journal_book.specs.Texts.{reply_text, replay_text}
 

@@ -23,8 +23,8 @@ use Rattle.book.specs.declared.states.OpenBook.{OpenBook}
 use Rattle.book.specs.declared.states.Pass.{Pass as Token}
 use Rattle.book.specs.Shown.{open_book, frozen_book, pass_of}
 use Rattle.journal_line.specs.declared.calls.Opening.{Opening}
-use Rattle.journal_line.specs.declared.calls.RuleName.{RuleName}
-use Rattle.journal_line.specs.declared.calls.RuleName.TheVariants.{Down, Running}
+use Rattle.sharing.specs.declared.names.RuleName.{RuleName}
+use Rattle.sharing.specs.declared.names.RuleName.TheVariants.{Down, Running}
 use Rattle.journal_rules.specs.Journal.{Journal as Kept}
 use Rattle.journal_book.specs.declared.states.Journal.{Journal}
 use Rattle.journal_book.specs.declared.states.Stage.{Stage}

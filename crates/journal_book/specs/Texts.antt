@@ -13,7 +13,7 @@ use Rattle.tariff.specs.Refusals.{number, told, table_word}
 use Rattle.sharing.specs.Rule.{Rule}
 use Rattle.line_rows.specs.Writing.{most_line}
 use Rattle.journal_line.specs.declared.calls.Command.{Command}
-use Rattle.journal_line.specs.declared.calls.RuleName.{RuleName}
+use Rattle.sharing.specs.declared.names.RuleName.{RuleName}
 use Rattle.journal_rules.specs.Journal.{Journal, Reply as Said, step_journal}
 use Rattle.journal_book.specs.declared.replies.Reply.{Reply}
 use Rattle.journal_book.specs.declared.replies.Reply.TheVariants.{Pass, Removed, HandedIn, Row, Corrected, Frozen, Open, Billed, Refused, NotOffered, NoPass}

@@ -5,7 +5,7 @@ ghost use Rattle.tariff.specs.declared.rows.CostRow.{CostRow as CostEntry};
 ghost use Rattle.sharing.specs.Rule.{Lawful, Rule};
 ghost use Rattle.book.specs.declared.states.Pass.{Pass as Token};
 ghost use Rattle.book.specs.Shown.{frozen_book};
-ghost use Rattle.journal_line.specs.declared.calls.RuleName.{RuleName as Name};
+ghost use Rattle.sharing.specs.declared.names.RuleName.{RuleName as Name};
 ghost use Rattle.journal_line.specs.declared.calls.Command.TheVariants.{TakeIn, Reopen, Bill};
 ghost use Rattle.journal_rules.specs.Journal.{answered, step_journal};
 ghost use Rattle.journal_book.specs.Answers.{Answers};
@@ -16,9 +16,9 @@ use crate::passes::take_pass;
 use crate::replies::Reply;
 use crate::states::Stage;
 use book::{FrozenBook, Pass};
-use journal_line::{Command, RuleName};
+use journal_line::Command;
 use line_rows::put_bill;
-use sharing::SharingRule;
+use sharing::{RuleName, SharingRule};
 use tariff::{CostRow, UnitRow};
 
 fn reopen(book: FrozenBook) -> (Stage, Reply)

@@ -3,7 +3,7 @@ ghost use Rattle.std.specs.Prelude.{◌≡◌, ℕ, List, Option as Maybe};
 ghost use Rattle.tariff.specs.declared.rows.UnitRow.{UnitRow as UnitEntry};
 ghost use Rattle.tariff.specs.declared.rows.CostRow.{CostRow as CostEntry};
 ghost use Rattle.sharing.specs.Rule.{Rule};
-ghost use Rattle.journal_line.specs.declared.calls.RuleName.{RuleName};
+ghost use Rattle.sharing.specs.declared.names.RuleName.{RuleName};
 ghost use Rattle.journal_line.specs.declared.calls.Command.TheVariants.{Admit, Remove, HandIn, Post, Correct, Cost, Freeze};
 ghost use Rattle.book.specs.declared.states.Pass.{Pass as Token};
 ghost use Rattle.book.specs.Told.{told_row};

@@ -1,7 +1,7 @@
 // A journal with every call, read as text.
 use journal_book::Journal;
-use journal_line::{Command, Opening, RuleName};
-use sharing::{Down, Running};
+use journal_line::{Command, Opening};
+use sharing::{Down, RuleName, Running};
 use std::alloc::Global;
 use std::test::Fail;
 use tariff::{CostRow, Sizes, UnitRow};

@@ -20,8 +20,8 @@ use Rattle.journal_line.specs.declared.calls.Fault.TheVariants.{UnknownCall, Fie
 use Rattle.journal_line.specs.declared.calls.Line.{Line}
 use Rattle.journal_line.specs.declared.calls.Line.TheVariants.{Skipped, Open, Call}
 use Rattle.journal_line.specs.declared.calls.Opening.{Opening}
-use Rattle.journal_line.specs.declared.calls.RuleName.{RuleName}
-use Rattle.journal_line.specs.declared.calls.RuleName.TheVariants.{Down, Running}
+use Rattle.sharing.specs.declared.names.RuleName.{RuleName}
+use Rattle.sharing.specs.declared.names.RuleName.TheVariants.{Down, Running}
 use Rattle.scanning.specs.Scanning.{bind, or_else, after_word, field_in, at_end}
 use Rattle.std.specs.Option.{option_map}
 use Rattle.tariff.specs.declared.rows.CostRow.{CostRow}

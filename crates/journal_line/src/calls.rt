@@ -2,15 +2,9 @@
 ghost use Rattle.std.specs.Prelude.{◌≡◌, Some};
 ghost use Rattle.journal_line.specs.Faults.{usage, fault_words};
 
+use sharing::RuleName;
 use std::fmt;
 use tariff::{CostRow, Sizes, UnitRow};
-
-// A rule by which a line of a bill is shared.
-#[derive(Clone, Copy)]
-pub enum RuleName {
-    Down,
-    Running,
-}
 
 // What a book is opened with: its number, its sizes, and how many rows its tables have.
 #[derive(Clone, Copy)]

@@ -4,5 +4,5 @@
 pub mod calls;
 pub mod parsing;
 
-pub use calls::{CallName, Command, Fault, Line, Opening, RuleName};
+pub use calls::{CallName, Command, Fault, Line, Opening};
 pub use parsing::parse_line;

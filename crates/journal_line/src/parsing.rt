@@ -4,8 +4,9 @@ ghost use Rattle.journal_line.specs.Lines.{after_first, call_in, last_in, openin
 ghost use Rattle.scanning.specs.Scanning.{at_end};
 ghost use Rattle.std.specs.Option.{option_map};
 
-use crate::calls::{CallName, Command, Fault, Line, Opening, RuleName};
+use crate::calls::{CallName, Command, Fault, Line, Opening};
 use scanning::{after_word, field};
+use sharing::RuleName;
 use tariff::{CostRow, Sizes, UnitRow};
 
 // Separates the words of a line.

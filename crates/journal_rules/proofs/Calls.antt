@@ -9,7 +9,7 @@ use Rattle.book_rules.specs.Machine.{Pass, admit_refusal, remove_refusal, hand_i
 use Rattle.book_rules.specs.Run.{State, Call, admit, remove, hand_in, post, add_cost, correct, freeze, reopen, take_in, bill, Answer, not_offered, outcome, frozen_by, told_bill, perform, stepped, step, offers, Offered, final, answers}
 use Rattle.journal_line.specs.declared.calls.Command.{Command}
 use Rattle.journal_line.specs.declared.calls.Command.TheVariants.{Admit, Remove, HandIn, TakeIn, Post, Correct, Cost, Freeze, Reopen, Bill}
-use Rattle.journal_line.specs.declared.calls.RuleName.{RuleName}
+use Rattle.sharing.specs.declared.names.RuleName.{RuleName}
 use Rattle.journal_rules.specs.Journal.{Journal, Reply, answered, no_pass, held_pass, offers_to, call_for, called, step_journal, after, replies, listed, made_by, calls_of, answer_in, answers_in}
 
 pub offered-++ : (s : State) (xs ys : List Call) → Offered s xs → Offered (final s xs) ys → Offered s (xs ++ ys)

@@ -5,7 +5,7 @@ use Rattle.bill_rules.specs.Bill.{Lengths}
 use Rattle.book_rules.specs.Run.{State, Call, bill, Offered, final}
 use Rattle.book_rules.specs.Laws.{LawsOfALife}
 use Rattle.journal_line.specs.declared.calls.Command.{Command}
-use Rattle.journal_line.specs.declared.calls.RuleName.{RuleName}
+use Rattle.sharing.specs.declared.names.RuleName.{RuleName}
 use Rattle.journal_rules.specs.Journal.{Journal, calls_of}
 use Rattle.journal_rules.specs.LawsOf.{LawsOf}
 use Rattle.journal_rules.proofs.Calls.{offered-++, offered_before, offered_behind, calls_offered}

@@ -12,7 +12,7 @@ use Rattle.book_rules.specs.Machine.{Pass, new_pass, admit_refusal, remove_refus
 use Rattle.book_rules.specs.Run.{State, Call, remove, hand_in, post, add_cost, correct, freeze, reopen, take_in, bill, Answer, gave, not_offered, Outcome, outcome, frozen_by, stepped, step, at_opening}
 use Rattle.journal_line.specs.declared.calls.Command.{Command}
 use Rattle.journal_line.specs.declared.calls.Command.TheVariants.{Admit, Remove, HandIn, TakeIn, Post, Correct, Cost, Freeze, Reopen, Bill}
-use Rattle.journal_line.specs.declared.calls.RuleName.{RuleName}
+use Rattle.sharing.specs.declared.names.RuleName.{RuleName}
 use Rattle.journal_rules.specs.Journal.{Journal, answered, held_pass, offers_to, call_for, after_call, called, step_journal, after}
 use Rattle.journal_rules.specs.Numbered.{Numbered}
 

@@ -25,7 +25,7 @@ use Rattle.book_rules.specs.Run.{State, Call, admit, remove, hand_in, post, add_
 use Rattle.line_rows.specs.Rows.{book_columns}
 use Rattle.journal_line.specs.declared.calls.Command.{Command}
 use Rattle.journal_line.specs.declared.calls.Command.TheVariants.{Admit, Remove, HandIn, TakeIn, Post, Correct, Cost, Freeze, Reopen, Bill}
-use Rattle.journal_line.specs.declared.calls.RuleName.{RuleName}
+use Rattle.sharing.specs.declared.names.RuleName.{RuleName}
 
 pub record Journal : Type 0 where
   pub state : State

@@ -10,7 +10,7 @@ use Rattle.sharing.specs.Rule.{Rule}
 use Rattle.line_rows.specs.Writing.{most_line}
 use Rattle.journal_line.specs.declared.calls.Command.{Command}
 use Rattle.journal_line.specs.declared.calls.Opening.{Opening}
-use Rattle.journal_line.specs.declared.calls.RuleName.{RuleName}
+use Rattle.sharing.specs.declared.names.RuleName.{RuleName}
 use Rattle.journal_rules.specs.Journal.{Journal as Kept, step_journal, after}
 use Rattle.journal_book.specs.Replay.{Replays}
 use Rattle.journal_book.specs.Shown.{opening_journal}

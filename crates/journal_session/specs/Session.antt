@@ -21,7 +21,7 @@ use Rattle.journal_line.specs.declared.calls.Fault.{Fault}
 use Rattle.journal_line.specs.declared.calls.Line.{Line}
 use Rattle.journal_line.specs.declared.calls.Line.TheVariants.{Skipped, Open, Call}
 use Rattle.journal_line.specs.declared.calls.Opening.{Opening}
-use Rattle.journal_line.specs.declared.calls.RuleName.{RuleName}
+use Rattle.sharing.specs.declared.names.RuleName.{RuleName}
 use Rattle.journal_line.specs.Lines.{line_in}
 use Rattle.journal_rules.specs.Journal.{Journal as Kept, step_journal}
 use Rattle.journal_book.specs.Shown.{shown_journal, opening_journal}

@@ -1,6 +1,8 @@
 // Sharing rules: a pool of cents is shared among customers by their units.
 #![tactic(auto)]
 
+mod names;
+
 ghost use Rattle.std.specs.Prelude.{◌≡◌, ◌*◌, ◌/◌, ◌^◌, ◌<◌, ◌≤◌, length, sum};
 ghost use Rattle.tariff.specs.Limits.{most_amount, most_customers};
 ghost use Rattle.tariff.specs.Refusals.{answer, unless};
@@ -9,6 +11,7 @@ ghost use Rattle.sharing.specs.Rules.{down, running};
 ghost use Rattle.sharing.specs.Theorems.{LawsOfSharing};
 ghost use Rattle.sharing.specs.Laws.{down_lawful, running_lawful};
 
+pub use names::RuleName;
 use tariff::Refusal;
 use tariff::limits::{MOST_AMOUNT, MOST_CUSTOMERS};
 

@@ -1,6 +1,6 @@
 use Rattle.std.proofs.Common.{length, refl}
 use Rattle.book.specs.Shown.{frozen_book}
-use Rattle.journal_line.specs.declared.calls.RuleName.TheVariants.{Down, Running}
+use Rattle.sharing.specs.declared.names.RuleName.TheVariants.{Down, Running}
 use Rattle.journal_book.specs.Shown.{rules_for}
 use Rattle.journal_book.proofs.Commands.{named_reply, named_out}
 use Rattle.journal_book.proofs.frozen_calls.bill_by.Goals as goal
