@@ -46,6 +46,10 @@ fit_known pool units places total h =
 pub fit_from_none : (pool : ℕ) (units : List ℕ) (places : ℕ) → share_refusal pool units places ≡ None → Fit pool units places (sum units)
 fit_from_none pool units places none = fit_known pool units places (sum units) (sym (ap (λ o. answer o (sum units)) none))
 
+-- the same of a share that was not refused
+pub fit_shared : (pool : ℕ) (units : List ℕ) (places : ℕ) {done : Unit {0}} → Ok done ≡ answer (share_refusal pool units places) tt → Fit pool units places (sum units)
+fit_shared pool units places h = fit_from_none pool units places (ok_tells (share_refusal pool units places) _ tt h).0
+
 -- the end of a loop that wrote f k at each place k
 pub filled : (f : ℕ → ℕ) (pool : ℕ) (units before column : List ℕ) (total i : ℕ) → Fit pool units (length before) total → length column ≡ length before → length units ≤ i → ((k : ℕ) → k < i → slice_index column k ≡ f k) → column ≡ unless (share_refusal pool units (length before)) before (map f (range_with_len 0 (length units)))
 filled f pool units before column total i fit same all each =

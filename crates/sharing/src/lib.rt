@@ -1,6 +1,7 @@
 // Sharing rules: a pool of cents is shared among customers by their units.
 #![tactic(auto)]
 
+mod columns;
 mod names;
 
 ghost use Rattle.std.specs.Prelude.{◌≡◌, ◌*◌, ◌/◌, ◌^◌, ◌<◌, ◌≤◌, length, sum};
@@ -11,6 +12,7 @@ ghost use Rattle.sharing.specs.Rules.{down, running};
 ghost use Rattle.sharing.specs.Theorems.{LawsOfSharing};
 ghost use Rattle.sharing.specs.Laws.{down_lawful, running_lawful};
 
+pub use columns::{Figure, column_total};
 pub use names::RuleName;
 use tariff::Refusal;
 use tariff::limits::{MOST_AMOUNT, MOST_CUSTOMERS};
@@ -45,19 +47,6 @@ pub struct Division {
     pub left: i64,
 }
 
-// The sum of a column of units or of cents.
-fn column_total(column: &[u32]) -> u64
-    requires { length column.now ≤ most_customers }
-    ensures value { result ≡ sum column.now }
-    ensures bound { result < 2 ^ 40 }
-{
-    let mut total: u64 = 0;
-    for figure in column {
-        total += u64::from(*figure);
-    }
-    total
-}
-
 // The units of all customers, or the refusal that a rule gives.
 fn units_total(pool: u32, units: &[u32], places: usize) -> Result<u64, Refusal>
     ensures { result ≡ answer (share_refusal pool units.now places) (sum units.now) }
@@ -66,10 +55,10 @@ fn units_total(pool: u32, units: &[u32], places: usize) -> Result<u64, Refusal>
         return Err(Refusal::RuleInput);
     }
     let total = column_total(units);
-    if total > u64::from(MOST_AMOUNT) {
+    if total > u128::from(MOST_AMOUNT) {
         return Err(Refusal::RuleInput);
     }
-    Ok(total)
+    Ok(total as u64)
 }
 
 // The part of the pool that falls to some of all the units, without its fraction.
@@ -130,8 +119,8 @@ pub fn divide<R: SharingRule>(
     ensures laws { LawsOfSharing }
 {
     rule.share(pool, units, column)?;
-    let shares = column_total(column);
-    let units = column_total(units);
+    let shares = column_total(column) as u64;
+    let units = column_total(units) as u64;
     Ok(Division {
         units,
         shares,

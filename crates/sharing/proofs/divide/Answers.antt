@@ -5,7 +5,7 @@ use Rattle.tariff.specs.Refusals.{answer, unless}
 use Rattle.tariff.proofs.Refused.{ok_tells, err_tells}
 use Rattle.sharing.specs.declared.Division.{Division}
 use Rattle.sharing.specs.Rule.{share_refusal, division}
-use Rattle.sharing.proofs.Laws.{fit_from_none}
+use Rattle.sharing.proofs.Laws.{fit_shared}
 use Rattle.sharing.proofs.Theorems.{laws_of_sharing}
 use Rattle.sharing.proofs.divide.Goals as goal
 
@@ -22,22 +22,23 @@ returns-in_err-share g c =
       laws = laws_of_sharing;
     }
 
-pub column_total-shares-requires : goal.column_total-shares-requires
-column_total-shares-requires g c =
-    let none = (ok_tells (share_refusal c.args.pool c.args.units.now (length c.args.column.now)) c.in_ok-share.field-0 tt c.in_ok-share.ensures.answers).0 in
-    let f = fit_from_none c.args.pool c.args.units.now (length c.args.column.now) none in
-    omega arith
+pub overflow_cast-shares : goal.overflow_cast-shares
+overflow_cast-shares g c = let f = fit_shared c.args.pool c.args.units.now (length c.args.column.now) c.in_ok-share.ensures.answers in omega (arith, ints)
+
+pub overflow_cast-units : goal.overflow_cast-units
+overflow_cast-units g c = let f = fit_shared c.args.pool c.args.units.now (length c.args.column.now) c.in_ok-share.ensures.answers in omega (arith, ints)
 
 pub overflow_cast-result : goal.overflow_cast-result
-overflow_cast-result g c = omega (arith, ints)
+overflow_cast-result g c = let f = fit_shared c.args.pool c.args.units.now (length c.args.column.now) c.in_ok-share.ensures.answers in omega (arith, ints)
 
 pub overflow_sub-result : goal.overflow_sub-result
-overflow_sub-result g c = omega (arith, ints)
+overflow_sub-result g c = let f = fit_shared c.args.pool c.args.units.now (length c.args.column.now) c.in_ok-share.ensures.answers in omega (arith, ints)
 
 pub returns : goal.returns
 returns g c =
     let m = g.R.SharingRule.meaning c.args.rule.now in
-    let none = (ok_tells (share_refusal c.args.pool c.args.units.now (length c.args.column.now)) c.in_ok-share.field-0 tt c.in_ok-share.ensures.answers).0 in
+    let f = fit_shared c.args.pool c.args.units.now (length c.args.column.now) c.in_ok-share.ensures.answers in
+    let none = f.fit in
     let column : c.share.new.column ≡ m c.args.pool c.args.units.now =
     c.share.ensures.writes ∙ ap (λ o. unless o c.args.column.now (m c.args.pool c.args.units.now)) none in
     let shares : c.column_total-shares.result ≡ sum (m c.args.pool c.args.units.now) = c.column_total-shares.ensures.value ∙ ap sum column in
