@@ -1,12 +1,10 @@
--- The digits of a number by their places, how many there are, and the sign before them.
-use Rattle.std.proofs.Common.{◌≡◌, ℕ, zero, suc, ◌+◌, ◌-◌, ◌/◌, ◌%◌, ◌^◌, ◌<◌, ◌≤◌, false, List, [], ◌∷◌, ◌++◌, length, get_or, ℤ, pos, negsuc, nat_abs, decimal, sym, ap, ◌∙◌, subst, inl, inr, arith}
+-- The digits of a number by their places, and how many there are.
+use Rattle.std.proofs.Common.{◌≡◌, ℕ, zero, suc, ◌+◌, ◌-◌, ◌*◌, ◌/◌, ◌%◌, ◌^◌, ◌<◌, ◌≤◌, List, [], ◌∷◌, ◌++◌, length, get_or, max, decimal, sym, ap, ◌∙◌, subst, inl, inr, add-one, arith}
 use native.Mathlib.Nat.{div-div-eq-div-mul, pow-succ', pow-le-pow_right}
-use lib.Signed.{le_z}
-use Rattle.std.proofs.lemmas.Fmt.{decimal_by_steps, decimal_is_IsNumeral, length-decimal-le}
+use Rattle.std.proofs.lemmas.Fmt.{decimal_by_steps, decimal_is_IsNumeral, decimal_nonempty, length-decimal-le}
 use Rattle.std.proofs.lemmas.Int.Digits.{digits_value-lt}
 use Rattle.std.proofs.lemmas.List.{ext_get_or, get_or_append_left, get_or_push, length_push}
-use Rattle.std.proofs.lemmas.Bool.{cases_lt, leb-false}
-use Rattle.std.specs.Fmt.{signed_decimal}
+use Rattle.std.proofs.lemmas.Bool.{cases_lt}
 
 -- the digit of a number of so many digits at a place, counted from the front
 abbrev pub digit_at : ℕ → ℕ → ℕ → ℕ
@@ -50,9 +48,18 @@ length_decimal_gt k n big small =
       | inr g ↦ let reads = decimal_is_IsNumeral n small in absurd (omega (arith, digits_value-lt 10 (decimal n) reads.0.1, reads.1, pow-le-pow_right {n = 10} (omega arith) g))
     ]
 
+-- the digits of a number, by the power of ten that it reaches; 0 has one
+pub length_decimal_is : (k n : ℕ) → 10 ^ k ≤ max n 1 → max n 1 < 10 * 10 ^ k → n < 2 ^ 64 → k + 1 ≡ length (decimal n)
+length_decimal_is k n low high small =
+    elim (cases_lt 0 n) [
+      | inl some ↦
+          let top : 10 ^ (k + 1) ≡ 10 * 10 ^ k = ap (λ (m : ℕ). 10 ^ m) (add-one k) ∙ pow-succ' 10 k in
+          omega (arith, length_decimal_gt k n (omega arith) small, length-decimal-le (k + 1) n (omega arith) (omega arith) small)
+      | inr none ↦ elim (cases_lt 0 k) [
+        | inl more ↦ absurd (omega (arith, pow-le-pow_right {n = 10} (omega arith) more))
+        | inr zero' ↦ omega (arith, decimal_nonempty n small, length-decimal-le 1 n (omega arith) (omega arith) small)
+      ]
+    ]
+
 pub length_decimal_le_twenty : (n : ℕ) → n < 2 ^ 64 → length (decimal n) ≤ 20
 length_decimal_le_twenty n small = length-decimal-le 20 n (omega arith) (omega arith) small
-
-pub signed_below_zero : (z : ℤ) (magnitude : ℕ) → le_z (pos 0) z ≡ false → magnitude ≡ nat_abs z → signed_decimal z ≡ 45 ∷ decimal magnitude
-signed_below_zero (pos n) magnitude below e = absurd (omega (arith, leb-false 0 n below))
-signed_below_zero (negsuc n) magnitude below e = ap (λ (m : ℕ). 45 ∷ decimal m) (sym e)

@@ -1,9 +1,10 @@
 // Bytes and decimal numbers, written into a caller's buffer.
 #![tactic(auto)]
 
-ghost use Rattle.std.specs.Prelude.{◌≡◌, ◌+◌, ◌^◌, ◌<◌, ◌≤◌, length, decimal, nat_lt};
+ghost use Rattle.std.specs.Prelude.{◌≡◌, ◌+◌, ◌^◌, ◌<◌, ◌≤◌, [], ◌∷◌, length, decimal, nat_lt};
 ghost use Rattle.std.specs.Fmt.{signed_decimal};
-ghost use Rattle.tariff.specs.Refusals.{answer, unless};
+ghost use Rattle.tariff.specs.Refusals.{answer, first_of, unless};
+ghost use Rattle.tariff.specs.declared.refusal.Refusal.TheVariants.{BufferTooShort};
 ghost use Rattle.buffer.specs.Putting.{pasted, put_refusal};
 
 use tariff::Refusal;
@@ -32,18 +33,14 @@ const POWERS: [u64; 20] = [
     10000000000000000000,
 ];
 
-// Asked without the sum of place and size, which could overflow.
-fn is_too_short(room: usize, place: usize, size: usize) -> bool
-    ensures { result ≡ nat_lt room (place + size) }
+// The place behind so many bytes from a place on, or the refusal of a buffer that ends before it.
+fn end_within(room: usize, place: usize, size: usize) -> Result<usize, Refusal>
+    ensures { result ≡ answer (first_of ((nat_lt room (place + size), BufferTooShort) ∷ [])) (place + size) }
 {
-    place > room || size > room - place
-}
-
-fn paste(out: &mut [u8], place: usize, bytes: &[u8])
-    requires { place + length bytes.now ≤ length out.old }
-    ensures { out.new ≡ pasted out.old place bytes.now }
-{
-    out[place..place + bytes.len()].copy_from_slice(bytes);
+    place
+        .checked_add(size)
+        .filter(|end| *end <= room)
+        .ok_or(Refusal::BufferTooShort)
 }
 
 // Writes bytes from a place on; a buffer too short is refused and stays as it was. Answers the place behind them.
@@ -51,11 +48,9 @@ pub fn put_bytes(out: &mut [u8], place: usize, bytes: &[u8]) -> Result<usize, Re
     ensures answers { result ≡ answer (put_refusal (length out.old) place bytes.now) (place + length bytes.now) }
     ensures out { out.new ≡ unless (put_refusal (length out.old) place bytes.now) out.old (pasted out.old place bytes.now) }
 {
-    if is_too_short(out.len(), place, bytes.len()) {
-        return Err(Refusal::BufferTooShort);
-    }
-    paste(out, place, bytes);
-    Ok(place + bytes.len())
+    let end = end_within(out.len(), place, bytes.len())?;
+    out[place..end].copy_from_slice(bytes);
+    Ok(end)
 }
 
 fn power_of_ten(exponent: usize) -> u64
@@ -65,33 +60,24 @@ fn power_of_ten(exponent: usize) -> u64
     POWERS[exponent]
 }
 
+// The digits of a number; 0 has one.
 fn digit_count(number: u64) -> usize
     ensures count { result ≡ length (decimal number) }
     ensures small { result ≤ 20 }
 {
-    let mut count = 1;
-    while count < POWERS.len() && number >= power_of_ten(count) {
-        count += 1;
-    }
-    count
+    number.max(1).ilog10() as usize + 1
 }
 
-// Fills a part that is as long as the number, from the highest digit on.
+// Fills a part that is as long as the number, from the highest digit on. (The powers go by number and not by `zip`:
+// no proof knows what is written through an adapter of `iter_mut`.)
 fn fill_digits(part: &mut [u8], number: u64)
     requires { length part.old ≡ length (decimal number) }
     ensures { part.new ≡ decimal number }
 {
     let count = part.len();
-    for i in 0..count {
-        part[i] = b'0' + (number / power_of_ten(count - 1 - i) % 10) as u8;
+    for (i, digit) in part.iter_mut().enumerate() {
+        *digit = b'0' + (number / power_of_ten(count - 1 - i) % 10) as u8;
     }
-}
-
-fn paste_number(out: &mut [u8], place: usize, number: u64, count: usize)
-    requires { (count ≡ length (decimal number)) × (place + count ≤ length out.old) }
-    ensures { out.new ≡ pasted out.old place (decimal number) }
-{
-    fill_digits(&mut out[place..place + count], number);
 }
 
 // Writes a number in decimal digits, as `put_bytes` writes bytes.
@@ -99,12 +85,9 @@ pub fn put_number(out: &mut [u8], place: usize, number: u64) -> Result<usize, Re
     ensures answers { result ≡ answer (put_refusal (length out.old) place (decimal number)) (place + length (decimal number)) }
     ensures out { out.new ≡ unless (put_refusal (length out.old) place (decimal number)) out.old (pasted out.old place (decimal number)) }
 {
-    let count = digit_count(number);
-    if is_too_short(out.len(), place, count) {
-        return Err(Refusal::BufferTooShort);
-    }
-    paste_number(out, place, number, count);
-    Ok(place + count)
+    let end = end_within(out.len(), place, digit_count(number))?;
+    fill_digits(&mut out[place..end], number);
+    Ok(end)
 }
 
 // Writes a number in decimal digits, after a `-` if it is below 0.
@@ -116,11 +99,8 @@ pub fn put_signed(out: &mut [u8], place: usize, number: i64) -> Result<usize, Re
     if number >= 0 {
         return put_number(out, place, magnitude);
     }
-    let count = digit_count(magnitude);
-    if is_too_short(out.len(), place, 1 + count) {
-        return Err(Refusal::BufferTooShort);
-    }
-    paste(out, place, b"-");
-    paste_number(out, place + 1, magnitude, count);
-    Ok(place + 1 + count)
+    let end = end_within(out.len(), place, 1 + digit_count(magnitude))?;
+    out[place] = b'-';
+    fill_digits(&mut out[place + 1..end], magnitude);
+    Ok(end)
 }

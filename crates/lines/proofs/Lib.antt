@@ -1,2 +1,2 @@
 pub mod Firsts
-pub mod Steps
+pub mod Faults

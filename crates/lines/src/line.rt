@@ -1,7 +1,7 @@
 // The table of the seven lines.
 ghost use Rattle.std.specs.Prelude.{◌≡◌};
 ghost use Rattle.std.specs.Option.{ok_or};
-ghost use Rattle.lines.specs.Lines.{zonal, dated, timed, counts, look_up, schedule, line_of};
+ghost use Rattle.lines.specs.Lines.{zonal, dated, timed, counts, line_of};
 ghost use Rattle.tariff.specs.declared.refusal.Refusal.TheVariants.{FieldOutOfRange};
 
 use tariff::Refusal;
@@ -51,10 +51,7 @@ impl Area {
     pub fn zonal(self) -> bool
         ensures { result ≡ zonal self }
     {
-        match self {
-            Area::Subzone => true,
-            Area::State => false,
-        }
+        matches!(self, Area::Subzone)
     }
 }
 
@@ -63,22 +60,14 @@ impl Span {
     pub fn dated(self) -> bool
         ensures { result ≡ dated self }
     {
-        match self {
-            Span::Hour => true,
-            Span::Day => true,
-            Span::Period => false,
-        }
+        matches!(self, Span::Hour | Span::Day)
     }
 
     // Whether the line has a figure for each hour.
     pub fn timed(self) -> bool
         ensures { result ≡ timed self }
     {
-        match self {
-            Span::Hour => true,
-            Span::Day => false,
-            Span::Period => false,
-        }
+        matches!(self, Span::Hour)
     }
 }
 
@@ -97,8 +86,10 @@ impl Kinds {
 }
 
 impl Line {
-    fn listed(number: u8) -> Option<Line>
-        ensures { result ≡ look_up number schedule }
+    // The line of a number, if the schedule has it.
+    #[tactic(auto, unfolding(crate::specs::Lines::line_of))]
+    pub fn find(number: u8) -> Option<Line>
+        ensures { result ≡ line_of number }
     {
         let (area, span, counted, station) = match number {
             // 6.1.9.1
@@ -124,14 +115,8 @@ impl Line {
         })
     }
 
-    // The line of a number, if the schedule has it.
-    pub fn find(number: u8) -> Option<Line>
-        ensures { result ≡ line_of number }
-    {
-        Line::listed(number)
-    }
-
     // The line of a number, or the refusal of a number that the schedule does not have.
+    // (No TryFrom: it would be a third name for what `find` and this answer.)
     pub fn of(number: u8) -> Result<Line, Refusal>
         ensures { result ≡ ok_or (line_of number) FieldOutOfRange }
     {

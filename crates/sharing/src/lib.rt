@@ -66,10 +66,7 @@ fn part(pool: u32, some: u64, total: u64) -> u32
     requires { (pool ≤ most_amount) × ((some ≤ total) × (total ≤ most_amount)) }
     ensures { result ≡ pool * some / total }
 {
-    if total == 0 {
-        return 0;
-    }
-    (u64::from(pool) * some / total) as u32
+    (u64::from(pool) * some).checked_div(total).unwrap_or(0) as u32
 }
 
 impl SharingRule for Down {
@@ -79,8 +76,10 @@ impl SharingRule for Down {
 
     fn share(&mut self, pool: u32, units: &[u32], column: &mut [u32]) -> Result<(), Refusal> {
         let total = units_total(pool, units, column.len())?;
-        for (i, u) in units.iter().enumerate() {
-            column[i] = part(pool, u64::from(*u), total);
+        // each place holds the customer's units until its share is known
+        column.copy_from_slice(units);
+        for share in column.iter_mut() {
+            *share = part(pool, u64::from(*share), total);
         }
         Ok(())
     }
@@ -93,12 +92,13 @@ impl SharingRule for Running {
 
     fn share(&mut self, pool: u32, units: &[u32], column: &mut [u32]) -> Result<(), Refusal> {
         let total = units_total(pool, units, column.len())?;
-        let mut seen: u64 = 0;
-        let mut given: u32 = 0;
-        for (i, u) in units.iter().enumerate() {
-            seen += u64::from(*u);
+        column.copy_from_slice(units);
+        let mut seen = 0;
+        let mut given = 0;
+        for share in column.iter_mut() {
+            seen += u64::from(*share);
             let reached = part(pool, seen, total);
-            column[i] = reached - given;
+            *share = reached - given;
             given = reached;
         }
         Ok(())
@@ -106,6 +106,7 @@ impl SharingRule for Running {
 }
 
 // Shares a pool by a rule and adds the division up. The laws of sharing hold of every rule.
+#[tactic(auto, using(crate::proofs::Theorems::laws_of_sharing))]
 pub fn divide<R: SharingRule>(
     rule: &mut R,
     pool: u32,

@@ -11,7 +11,7 @@ pub enum Table {
     Cost,
 }
 
-// What a refusal tells beside its number.
+// What a refusal tells beside its number. (No Option around it: what stands behind a reason is printed whatever it is.)
 #[derive(Clone, Copy, PartialEq, Eq, Debug)]
 pub enum Told {
     Nothing,
@@ -64,12 +64,12 @@ impl Refusal {
             Refusal::TableFull => 10,
             Refusal::SumTooLarge => 11,
             Refusal::PassOutstanding => 12,
-            Refusal::UnlawfulRow { table: _, row: _ } => 13,
-            Refusal::StationChargesTooLarge { subzone: _, day: _ } => 14,
+            Refusal::UnlawfulRow { .. } => 13,
+            Refusal::StationChargesTooLarge { .. } => 14,
             Refusal::RuleInput => 15,
             Refusal::NoUnitFile => 16,
-            Refusal::RecordLength { place: _ } => 17,
-            Refusal::RecordKind { place: _ } => 18,
+            Refusal::RecordLength { .. } => 17,
+            Refusal::RecordKind { .. } => 18,
             Refusal::BufferTooShort => 19,
         }
     }
@@ -82,8 +82,7 @@ impl Refusal {
             Refusal::UnlawfulRow { table, row } => Told::Row { table, row },
             Refusal::StationChargesTooLarge { subzone, day } => Told::AreaAndDay { subzone, day },
             Refusal::NoUnitFile => Told::Place(0),
-            Refusal::RecordLength { place } => Told::Place(place),
-            Refusal::RecordKind { place } => Told::Place(place),
+            Refusal::RecordLength { place } | Refusal::RecordKind { place } => Told::Place(place),
             _ => Told::Nothing,
         }
     }
@@ -108,17 +107,16 @@ impl Refusal {
             Refusal::TableFull => "the table has no free row",
             Refusal::SumTooLarge => "a sum of quantities or costs would pass 2147483647",
             Refusal::PassOutstanding => "a pass is still out (a mark is not 0)",
-            Refusal::UnlawfulRow { table: _, row: _ } =>
-                "a row is unlawful, by a field or by the sum up to it",
-            Refusal::StationChargesTooLarge { subzone: _, day: _ } =>
+            Refusal::UnlawfulRow { .. } => "a row is unlawful, by a field or by the sum up to it",
+            Refusal::StationChargesTooLarge { .. } =>
                 "the station charges of one area and day add up to more than 2147483647 cents",
             Refusal::RuleInput =>
                 "a sharing rule takes at most 256 customers, one place a customer, and a pool and a sum of units of at most 2147483647",
             Refusal::NoUnitFile =>
                 "the file is empty, longer than 65536 bytes, or does not begin with byte 1",
-            Refusal::RecordLength { place: _ } =>
+            Refusal::RecordLength { .. } =>
                 "a record is cut short, has length 0, or has not the length of its kind",
-            Refusal::RecordKind { place: _ } =>
+            Refusal::RecordKind { .. } =>
                 "a kind is unknown, the header is missing or repeated, or a note has a byte outside 32 to 126",
             Refusal::BufferTooShort => "the buffer is too short for what is to be written",
         }

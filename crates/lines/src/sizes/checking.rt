@@ -13,12 +13,9 @@ impl BookSizes {
     pub fn check(sizes: Sizes) -> Result<BookSizes, Refusal>
         ensures { checked result ≡ answer (sizes_refusal sizes) sizes }
     {
-        if sizes.customers < 1
-            || sizes.customers > MOST_CUSTOMERS
-            || sizes.days < 1
-            || sizes.days > MOST_DAYS
-            || sizes.subzones < 1
-            || sizes.subzones > MOST_SUBZONES
+        if !(1..=MOST_CUSTOMERS).contains(&sizes.customers)
+            || !(1..=MOST_DAYS).contains(&sizes.days)
+            || !(1..=MOST_SUBZONES).contains(&sizes.subzones)
         {
             return Err(Refusal::SizeOutOfRange);
         }
