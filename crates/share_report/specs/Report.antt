@@ -5,6 +5,7 @@
 --   sum_text       the row of the sums
 --   left_text      the row of what each rule leaves of the pool
 --   foot_of        what stands after the rows
+--   row            a row, of the customer's number, the units and both shares
 --   table_of       the table of a pool and the units of each customer
 --   table_text     the same of any shares, as far as there are units and shares by both rules
 --   shares_of      the shares of one rule and what they come to, or its refusal

@@ -1,7 +1,8 @@
 -- What the code answers, by what it means. Nothing is said of an answer for which there was no memory.
---   Reads    the numbers of a text were read, or its first bad word was
---   Divides  a pool was divided by a rule, or the rule's refusal was given
---   Answers  the table was given where the text is accepted, and else an error whose line is that of the answer
+--   Reads       the numbers of a text were read, or its first bad word was
+--   Divides     a pool was divided by a rule, or the rule's refusal was given
+--   error_line  the line for an error
+--   Answers     the table was given where the text is accepted, and else an error whose line is that of the answer
 use Rattle.std.specs.Prelude.{◌≡◌, ℕ, Bool, true, false, List, ◌++◌, Ok, Err, codes, vec_items, string_bytes, Result, Vec, String, ⊤}
 use Rattle.tariff.specs.declared.refusal.Refusal.{Refusal}
 use Rattle.sharing.specs.declared.Division.{Division}

@@ -74,8 +74,10 @@ next_word text found word rest n empty ef en ew er ee = by empty ee (elim (after
   where
     found_words : words text ≡ words found
     found_words = words_skip text ∙ ap words (sym ef)
+
     size : length word.now ≡ n
     size = ap length ew ∙ length-take-le n found (rw en (prefix_len-le-length solid found))
+
     by : (t : Bool) → t ≡ eqb (length word.now) 0 → (found ≡ []) ⊎ (opens found ≡ true) → Next (then_some (not t) word) text rest.now
     by true e (inl none) = (found_words ∙ ap words none, ap words er ∙ ap (λ k. words (drop k found)) (sym size ∙ eqb-true _ 0 (sym e)) ∙ ap words none)
     by true e (inr some) = let z = eqb-true (length word.now) 0 (sym e) in absurd (omega (arith, opens_some found some, size, en))
