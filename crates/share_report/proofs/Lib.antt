@@ -1,3 +1,1 @@
-pub mod NumberLaws
 pub mod ShareLaws
-pub mod TextLaws

@@ -1,28 +1,34 @@
--- A column that a rule has filled. Assumes nothing.
-use Rattle.std.proofs.Common.{◌≡◌, ℕ, List, ◌++◌, length, take, drop, Ok, sym, ap, ◌∙◌}
-use Rattle.std.proofs.lemmas.List.{take_at}
-use Rattle.tariff.specs.Refusals.{answer, unless}
+-- A column that a rule has filled, and the table of two such columns. Assumes nothing.
+use Rattle.std.proofs.Common.{◌≡◌, ℕ, suc, ◌+◌, ◌<◌, true, List, [], ◌∷◌, ◌++◌, length, get_or, Ok, sym, refl, ap, ◌∙◌, arith}
+use Rattle.std.specs.List.{range_with_len, flat_map, enumerate_from, zip}
 use Rattle.tariff.proofs.Refused.{ok_tells}
 use Rattle.sharing.specs.declared.Division.{Division}
-use Rattle.sharing.specs.Rule.{Meaning, Lawful, share_refusal, division}
-use Rattle.share_report.specs.Report.{shares_of}
+use Rattle.sharing.specs.Rule.{share_refusal, division}
+use Rattle.sharing.specs.Rules.{down, running}
+use Rattle.sharing.specs.Laws.{down_lawful, running_lawful}
+use Rattle.share_report.specs.Report.{row_text, row_of, row, head_of, foot_of, table_text, shares_of, divided_by}
 
--- the column is kept in a vector of `len` places, of which the rule wrote all
-pub filled_in : (m : Meaning) → Lawful m → (pool : ℕ) (units before last items : List ℕ) (len : ℕ) (d : Division) →
-    length before ≡ length units → len ≡ length units →
-    Ok d ≡ answer (share_refusal pool units (length before)) (division m pool units) →
-    last ≡ unless (share_refusal pool units (length before)) before (m pool units) →
-    Ok (take len (last ++ drop (length last) items), d) ≡ shares_of m pool units
-filled_in m law pool units before last items len d same places ok written =
-    let t = ok_tells (share_refusal pool units (length before)) d (division m pool units) ok in
-    let column : last ≡ m pool units = written ∙ ap (λ o. unless o before (m pool units)) t.0 in
-    let cut : take len (last ++ drop (length last) items) ≡ m pool units =
-    take_at last (drop (length last) items) len (ap length column ∙ law.many pool units ∙ sym places) ∙ column in
-    let none = ap (λ n. share_refusal pool units n) (sym same) ∙ t.0 in
-    ap (λ c. Ok (c, d)) cut ∙ ap (λ e. Ok (m pool units, e)) t.1 ∙ sym (ap (λ o. answer o (m pool units, division m pool units)) none)
+-- rows from a customer on, by the entries or by their numbers
+rows_from : (f : ℕ → List ℕ) (k : ℕ) (us ds rs : List ℕ) → length ds ≡ length us → length rs ≡ length us →
+    ((i j : ℕ) → j ≡ k + i → i < length us → f j ≡ row_text j (get_or us i 0) (get_or ds i 0) (get_or rs i 0)) →
+    flat_map row (enumerate_from k (zip us (zip ds rs))) ≡ flat_map f (range_with_len k (length us))
+rows_from f k [] ds rs d r h = refl
+rows_from f k (u ∷ us) [] rs d r h = absurd (omega (arith, d))
+rows_from f k (u ∷ us) (x ∷ ds) [] d r h = absurd (omega (arith, r))
+rows_from f k (u ∷ us) (x ∷ ds) (y ∷ rs) d r h =
+    let first : f k ≡ row_text k u x y = h 0 k (omega arith) (omega arith) in
+    let more = rows_from f (k + 1) us ds rs (omega arith) (omega arith)
+    (λ i j e l. h (suc i) j (omega arith) (omega arith)) in
+    ap (λ t. t ++ flat_map row (enumerate_from (k + 1) (zip us (zip ds rs)))) (sym first) ∙ ap (λ t. f k ++ t) more
 
--- an accepted column has a place for each customer
-pub shared_length : (m : Meaning) → Lawful m → (pool : ℕ) (units items : List ℕ) (d : Division) → Ok (items, d) ≡ shares_of m pool units → length items ≡ length units
-shared_length m law pool units items d ok =
-    let t = ok_tells (share_refusal pool units (length units)) (items, d) (m pool units, division m pool units) ok in
-    ap (λ p. length p.0) t.1 ∙ law.many pool units
+-- the table of what both rules give
+pub tabled : (pool : ℕ) (units : List ℕ) (d r : List ℕ × Division) (text : List ℕ) → Ok d ≡ shares_of down pool units → Ok r ≡ shares_of running pool units → text ≡ table_text pool units d r →
+    (true, text) ≡ divided_by (share_refusal pool units (length units)) pool units
+tabled pool units d r text ed er et =
+    let none = share_refusal pool units (length units) in
+    let td = ok_tells none d (down pool units, division down pool units) ed in
+    let tr = ok_tells none r (running pool units, division running pool units) er in
+    let rows = rows_from (row_of units (down pool units) (running pool units)) 0 units (down pool units) (running pool units) (down_lawful.many pool units) (running_lawful.many pool units) (λ i j e l. let same : j ≡ i = omega arith in rw same refl) in
+    ap (λ t. (true, t)) (et ∙ ap (λ x. table_text pool units x r) td.1 ∙ ap (table_text pool units (down pool units, division down pool units)) tr.1
+    ∙ ap (λ t. (head_of pool ++ t) ++ foot_of (division down pool units) (division running pool units)) rows)
+    ∙ sym (ap (λ o. divided_by o pool units) td.0)

@@ -1,3 +1,4 @@
+pub mod Errors
 pub mod Numbers
 pub mod Report
 pub mod Shown

@@ -1,13 +1,12 @@
 -- The numbers of a text.
---   BadWord        a word that is no number: its place among the words, from 1, its bytes, and why
---   after          numbers before the numbers of what follows
---   read_words     the numbers that words write, the first of them at place k, or the first bad word
---   numbers_of     the numbers that a text writes, or its first bad word
---   shown_bad      a bad word of the code, by what it holds
---   shown_numbers  what the code read, by what it holds
-use Rattle.std.specs.Prelude.{ℕ, ◌+◌, List, [], ◌∷◌, ◌++◌, Ok, Err, vec_items, Result, Vec}
+--   BadWord     a word that is no number: its place among the words, from 1, its bytes, and why
+--   after       numbers before the numbers of what follows
+--   read_words  the numbers that words write, the first of them at place k, or the first bad word
+--   numbers_of  the numbers that a text writes, or its first bad word
+--   shown_bad   a bad word of the code, by what it holds
+use Rattle.std.specs.Prelude.{ℕ, ◌+◌, List, [], ◌∷◌, ◌++◌, Ok, Err, Result}
 use Rattle.text.specs.declared.WordFault.{WordFault}
-use Rattle.share_report.specs.declared.numbers.Misread.{Misread}
+use Rattle.share_report.specs.declared.error.Misread.{Misread}
 use Rattle.text.specs.Words.{words, number_of}
 
 pub record BadWord : Type 0 where
@@ -32,7 +31,3 @@ numbers_of text = read_words 1 (words text)
 
 abbrev pub shown_bad : Misread → BadWord
 shown_bad m = record { place = m.place; word = m.word.now; fault = m.fault }
-
-abbrev pub shown_numbers : {Z : Type 0} → Result (Vec ℕ Z) Misread → Result (List ℕ) BadWord
-shown_numbers (Ok v) = Ok (vec_items v)
-shown_numbers (Err m) = Err (shown_bad m)

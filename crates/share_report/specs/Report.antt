@@ -5,15 +5,18 @@
 --   sum_text       the row of the sums
 --   left_text      the row of what each rule leaves of the pool
 --   foot_of        what stands after the rows
+--   row            a row, of the customer's number, the units and both shares
 --   table_of       the table of a pool and the units of each customer
+--   table_text     the same of any shares, as far as there are units and shares by both rules
 --   shares_of      the shares of one rule and what they come to, or its refusal
 --   shown_word     a word as it is shown again: at most 40 bytes, others than 32 to 126 as `?`
+--   bad_word       what is said of a word that is no number
 --   bad_word_line  the line for a word that is no number
 --   empty_line     the line for a text without words
 --   refused_line   the line for a pool and units that the rules refuse
 --   report_of      whether the text is accepted, and what is answered: the table, or one line
 use Rattle.std.specs.Prelude.{ℕ, Bool, true, false, cond, ◌||◌, List, [], ◌∷◌, ◌++◌, map, length, take, ℤ, Some, None, Ok, Err, codes, decimal, Option, Result, nat_lt, slice_index}
-use Rattle.std.specs.List.{range_with_len, flat_map}
+use Rattle.std.specs.List.{range_with_len, flat_map, enumerate_from, zip}
 use Rattle.std.specs.Fmt.{signed_decimal}
 use Rattle.tariff.specs.declared.refusal.Refusal.{Refusal}
 use Rattle.tariff.specs.Refusals.{words as refusal_words, answer}
@@ -43,6 +46,14 @@ left_text by_down by_running = codes "left over " ++ (signed_decimal by_down ++ 
 abbrev pub foot_of : Division → Division → List ℕ
 foot_of d r = sum_text d.units d.shares r.shares ++ left_text d.left r.left
 
+-- one row of a table: the customer's number, the units, and the shares by both rules
+abbrev pub row : ℕ × (ℕ × (ℕ × ℕ)) → List ℕ
+row r = row_text r.0 r.1.0 r.1.1.0 r.1.1.1
+
+abbrev pub table_text : ℕ → List ℕ → List ℕ × Division → List ℕ × Division → List ℕ
+table_text pool units d r =
+    (head_of pool ++ flat_map row (enumerate_from 0 (zip units (zip d.0 r.0)))) ++ foot_of d.1 r.1
+
 abbrev pub table_of : ℕ → List ℕ → List ℕ
 table_of pool units =
     (head_of pool ++ flat_map (row_of units (down pool units) (running pool units)) (range_with_len 0 (length units)))
@@ -57,6 +68,9 @@ shown_byte b = cond (nat_lt b 32 || nat_lt 126 b) 63 b
 
 abbrev pub shown_word : List ℕ → List ℕ
 shown_word w = map shown_byte (take 40 w)
+
+abbrev pub bad_word : BadWord → List ℕ
+bad_word e = codes "word " ++ (decimal e.place ++ (codes ", \"" ++ (shown_word e.word ++ (codes "\", " ++ fault_words e.fault))))
 
 abbrev pub bad_word_line : BadWord → List ℕ
 bad_word_line e = codes "share: word " ++ (decimal e.place ++ (codes ", \"" ++ (shown_word e.word ++ (codes "\", " ++ (fault_words e.fault ++ codes "\n")))))

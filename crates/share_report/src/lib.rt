@@ -1,5 +1,9 @@
 // What the program `share` answers to a text: a pool of cents and the units of each customer.
 #![tactic(auto)]
 
+mod error;
 mod numbers;
 pub mod report;
+mod table;
+
+pub use error::{Misread, ShareError};

@@ -151,6 +151,16 @@ mod tests {
     }
 
     #[test]
+    fn a_table_is_answered(rt: HostRuntime) -> Result<(), Fail> {
+        let table = report_on(rt.alloc(), b"100\n100 100 100")?;
+        assert_eq!(rt;
+            table.as_str(),
+            "pool 100\ncustomer units down running\n0 100 33 33\n1 100 33 33\n2 100 33 34\nsum 300 99 100\nleft over 1 0\n"
+        );
+        Ok(())
+    }
+
+    #[test]
     fn the_shell_is_told_why(rt: HostRuntime) -> Result<(), Fail> {
         let heap = rt.alloc();
         let cases: [(&[u8], &str); 7] = [
@@ -178,9 +188,9 @@ mod tests {
             ),
         ];
         for (input, line) in cases {
-            let report = report_on(heap, input)?;
-            assert!(rt; !report.accepted);
-            assert_eq!(rt; report.text.as_str(), line);
+            let error = report_on(heap, input).expect_err(&rt, "a line that says why");
+            let told = format!(in heap; "share: {error}\n")?;
+            assert_eq!(rt; told.as_str(), line);
         }
         Ok(())
     }

@@ -1,1 +1,2 @@
+pub mod NumberLaws
 pub mod WordLaws

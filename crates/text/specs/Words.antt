@@ -1,24 +1,19 @@
 -- The words of a text, and the number that a word writes.
 --   blank        a byte between words: a space, a tab, a line feed, a form feed or a carriage return
---   is_run       whether a byte belongs to a run of blanks, or to a run of other bytes
 --   words        the words of a text: the longest stretches without a blank, in their order
---   digit        a byte from 0 to 9
 --   value_from   the number that digits write after the digits of a number n
 --   number_of    the number that a word writes, or why it writes none that fits 32 bits
 --   fault_words  why a word is no number, in words
 --   Next         what the next word of a text is, and what is left after it
-use Rattle.std.specs.Prelude.{◌≡◌, ℕ, ◌+◌, ◌-◌, ◌*◌, ◌^◌, ◌<◌, Bool, true, false, cond, not, ◌&&◌, ◌||◌, List, [], ◌∷◌, length, Some, None, Ok, Err, codes, Option, Result, ◌==◌, nat_le, nat_lt}
+use Rattle.std.specs.Prelude.{◌≡◌, ℕ, ◌+◌, ◌-◌, ◌*◌, ◌^◌, ◌<◌, Bool, true, false, cond, not, ◌||◌, List, [], ◌∷◌, length, Some, None, Ok, Err, codes, Option, Result, ◌==◌, nat_lt}
 use Rattle.std.specs.Borrow.{Bor}
+use Rattle.std.specs.Char.{is_ascii_whitespace, is_ascii_digit}
+use Rattle.std.specs.List.{list_all}
 use Rattle.text.specs.declared.WordFault.{WordFault}
 use Rattle.text.specs.declared.WordFault.TheVariants.{NotANumber, TooLarge}
 
 abbrev pub blank : ℕ → Bool
-blank b = b == 32 || (b == 9 || (b == 10 || (b == 12 || b == 13)))
-
--- whether a byte goes on a run of blanks, or a run of other bytes
-abbrev pub is_run : Bool → ℕ → Bool
-is_run true b = blank b
-is_run false b = not (blank b)
+blank b = is_ascii_whitespace b
 
 -- whether a text begins inside a word
 abbrev pub opens : List ℕ → Bool
@@ -35,19 +30,12 @@ abbrev pub words : List ℕ → List (List ℕ)
 words [] = []
 words (b ∷ bs) = cond (blank b) (words bs) (grow (opens bs) b (words bs))
 
-abbrev pub digit : ℕ → Bool
-digit b = nat_le 48 b && nat_le b 57
-
-abbrev pub all_digits : List ℕ → Bool
-all_digits [] = true
-all_digits (b ∷ bs) = digit b && all_digits bs
-
 abbrev pub value_from : ℕ → List ℕ → ℕ
 value_from n [] = n
 value_from n (b ∷ bs) = value_from (10 * n + (b - 48)) bs
 
 abbrev pub number_of : List ℕ → Result ℕ WordFault
-number_of w = cond (length w == 0 || not (all_digits w)) (Err NotANumber) (cond (nat_lt (value_from 0 w) (2 ^ 32)) (Ok (value_from 0 w)) (Err TooLarge))
+number_of w = cond (length w == 0 || not (list_all is_ascii_digit w)) (Err NotANumber) (cond (nat_lt (value_from 0 w) (2 ^ 32)) (Ok (value_from 0 w)) (Err TooLarge))
 
 abbrev pub fault_words : WordFault → List ℕ
 fault_words NotANumber = codes "is not a whole number"

@@ -1,11 +1,12 @@
 // Plain text: its words, and the numbers that they write.
 #![tactic(auto)]
 
-ghost use Rattle.std.specs.Prelude.{◌≡◌, ◌^◌, true, if◌then◌else◌, Some, None, nat_lt};
-ghost use Rattle.std.specs.List.{prefix_len};
-ghost use Rattle.text.specs.Words.{blank, is_run, all_digits, value_from, number_of, fault_words, Next};
+ghost use Rattle.std.specs.Prelude.{◌≡◌, Some};
+ghost use Rattle.std.specs.Iterator.{item_count};
+ghost use Rattle.text.specs.Words.{words, number_of, fault_words, Next};
 
-use std::fmt;
+use std::error::Error;
+use std::{fmt, str};
 
 // Why a word is no number of 32 bits.
 #[derive(Clone, Copy, PartialEq, Eq, Debug)]
@@ -25,28 +26,12 @@ impl fmt::Display for WordFault {
     }
 }
 
-// The words of a text that are still to come.
+impl Error for WordFault {}
+
+// The words of a text that are still to come: what stands between its blanks.
 #[derive(Drop)]
 pub struct Words<'a> {
     rest: &'a [u8],
-}
-
-fn is_blank(b: u8) -> bool
-    ensures { result ≡ blank b }
-{
-    b == b' ' || b == b'\t' || b == b'\n' || b == 12 || b == b'\r'
-}
-
-// How many blanks the bytes begin with, or how many bytes that are none.
-fn leading_run(bytes: &[u8], blanks: bool) -> usize
-    ensures { result ≡ prefix_len (is_run blanks) bytes.now }
-{
-    for (i, b) in bytes.iter().enumerate() {
-        if is_blank(*b) != blanks {
-            return i;
-        }
-    }
-    bytes.len()
 }
 
 impl<'a> Words<'a> {
@@ -55,58 +40,37 @@ impl<'a> Words<'a> {
     {
         Words { rest: text }
     }
+}
+
+impl<'a> Iterator for Words<'a> {
+    type Item = &'a [u8];
+
+    ghost next_gives = { λ before r after. Next r before.rest.now after.rest.now };
+
+    ghost remaining = { item_count (λ s. words s.rest.now) };
 
     // The next word, or nothing where only blanks are left.
-    pub fn next(&mut self) -> Option<&'a [u8]>
-        ensures { Next result self.old.rest.now self.new.rest.now }
-    {
-        let text = self.rest;
-        let (_, found) = text.split_at(leading_run(text, true));
-        let (word, rest) = found.split_at(leading_run(found, false));
+    fn next(&mut self) -> Option<&'a [u8]> {
+        let text = self.rest.trim_ascii_start();
+        let end = text
+            .iter()
+            .position(u8::is_ascii_whitespace)
+            .unwrap_or(text.len());
+        let (word, rest) = text.split_at(end);
         self.rest = rest;
-        if word.is_empty() {
-            return None;
-        }
-        Some(word)
+        (!word.is_empty()).then_some(word)
     }
-}
-
-// Whether each byte is a decimal digit.
-fn all_digits(word: &[u8]) -> bool
-    ensures { result ≡ all_digits word.now }
-{
-    for b in word {
-        if *b < b'0' || *b > b'9' {
-            return false;
-        }
-    }
-    true
-}
-
-// The number that digits write, or nothing where it needs more than 32 bits.
-fn value_of(digits: &[u8]) -> Option<u32>
-    requires { all_digits digits.now ≡ true }
-    ensures { result ≡ (if nat_lt (value_from 0 digits.now) (2 ^ 32) then Some (value_from 0 digits.now) else None) }
-{
-    let mut value: u64 = 0;
-    for b in digits {
-        value = 10 * value + u64::from(*b - b'0');
-        if value > u64::from(u32::MAX) {
-            return None;
-        }
-    }
-    Some(value as u32)
 }
 
 // The number of 32 bits that a word writes in decimal digits and nothing else.
 pub fn number_of(word: &[u8]) -> Result<u32, WordFault>
     ensures { result ≡ number_of word.now }
 {
-    if word.is_empty() || !all_digits(word) {
+    let Ok(digits) = str::from_utf8(word) else {
+        return Err(WordFault::NotANumber);
+    };
+    if digits.is_empty() || !word.iter().all(u8::is_ascii_digit) {
         return Err(WordFault::NotANumber);
     }
-    match value_of(word) {
-        Some(value) => Ok(value),
-        None => Err(WordFault::TooLarge),
-    }
+    digits.parse().map_err(|_| WordFault::TooLarge)
 }
