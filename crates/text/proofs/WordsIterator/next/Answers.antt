@@ -2,7 +2,7 @@ use Rattle.std.proofs.Common.{rules, tests}
 use Rattle.std.proofs.lemmas.Iterator.{YieldsList-from_slice}
 use Rattle.std.proofs.lemmas.Iterator.Search.{position_from_yields_List}
 use Rattle.std.proofs.lemmas.Str.Ascii.{trim_ascii_start_is}
-use Rattle.text.specs.Words.{blank, words}
+use Rattle.text.specs.Words.{blank}
 use Rattle.text.proofs.WordLaws.{word_end, next_word, goes_on}
 use Rattle.text.proofs.WordsIterator.next.Goals as goal
 
