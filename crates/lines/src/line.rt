@@ -22,7 +22,8 @@ pub enum Span {
 }
 
 // Some kinds of rows; the kind of a unit row is its use, and that of a cost row its line. Flows are
-// load, wheels through and other exports (uses 0 to 2), and station power is use 4.
+// load, wheels through and other exports (uses 0 to 2), and station power is use 4. (Numbers, since unlawful rows have
+// kinds too.)
 #[derive(Clone, Copy, PartialEq, Eq, Debug)]
 pub enum Kinds {
     Every,
