@@ -1,3 +1,5 @@
-pub mod Answering
+pub mod Billed
+pub mod Columns
+pub mod Handing
 pub mod Settles
 pub mod TextLaws

@@ -1,3 +1,4 @@
+pub mod Failing
 pub mod Report
 pub mod Settling
 pub mod Shown

@@ -1,5 +1,4 @@
 -- What the program `bill` answers to a line, a rule and a unit file.
---   meaning_of, rule_word  the two rules by their names
 --   charge_word            the head of the charge column: on line 7 what customers receive
 --   net_of                 charge and station charge less credit
 --   row_text, row_of       a row of the table, and that of one customer
@@ -15,23 +14,14 @@ use Rattle.std.specs.Fmt.{signed_decimal}
 use Rattle.tariff.specs.declared.refusal.Refusal.{Refusal}
 use Rattle.tariff.specs.declared.rows.Sizes.{Sizes}
 use Rattle.tariff.specs.Refusals.{words as refusal_words}
-use Rattle.sharing.specs.Rule.{Meaning}
-use Rattle.sharing.specs.Rules.{down, running}
+use Rattle.sharing.specs.declared.names.RuleName.{RuleName}
+use Rattle.sharing.specs.Names.{meaning_of, rule_word}
 use Rattle.lines.specs.Totals.{line_costs}
 use Rattle.bill_rules.specs.Bill.{Figures, Lengths}
 use Rattle.book_rules.specs.Machine.{book_bill}
 use Rattle.book_rules.specs.Run.{State}
-use Rattle.bill_report.specs.declared.report.RuleName.{RuleName}
-use Rattle.bill_report.specs.declared.report.RuleName.TheVariants.{Down, Running}
-use Rattle.bill_report.specs.Settling.{file_sizes, settled}
-
-abbrev pub meaning_of : RuleName → Meaning
-meaning_of Down = down
-meaning_of Running = running
-
-abbrev pub rule_word : RuleName → List ℕ
-rule_word Down = codes "down"
-rule_word Running = codes "running"
+use Rattle.settling.specs.Settling.{file_sizes}
+use Rattle.bill_report.specs.Settling.{settled}
 
 abbrev pub charge_word : ℕ → List ℕ
 charge_word n = cond (n == 7) (codes "receives") (codes "charge")

@@ -1,0 +1,45 @@
+// Why there is no bill.
+ghost use Rattle.std.specs.Prelude.{◌≡◌, Some};
+ghost use Rattle.bill_report.specs.declared.error.BillError.TheVariants.{Refused, OutOfMemory};
+ghost use Rattle.bill_report.specs.Failing.{error_words};
+
+use std::alloc::AllocError;
+use std::error::Error;
+use std::fmt;
+use tariff::Refusal;
+
+// Why there is no bill: the refusal of the file, of its book or of the bill, or want of memory.
+#[derive(Clone, Copy, PartialEq, Eq, Debug)]
+pub enum BillError {
+    Refused(Refusal),
+    OutOfMemory,
+}
+
+impl fmt::Display for BillError {
+    ghost output = { λ e. Some (error_words e) };
+
+    fn fmt<W: fmt::Write>(&self, f: &mut fmt::Formatter<W>) -> fmt::Result {
+        match self {
+            BillError::Refused(refusal) => write!(f, "bill: {refusal}"),
+            BillError::OutOfMemory => f.write_str("memory allocation failed"),
+        }
+    }
+}
+
+impl Error for BillError {}
+
+impl From<Refusal> for BillError {
+    ghost from_gives = { λ refusal e. e ≡ Refused refusal };
+
+    fn from(refusal: Refusal) -> Self {
+        Self::Refused(refusal)
+    }
+}
+
+impl From<AllocError> for BillError {
+    ghost from_gives = { λ _ e. e ≡ OutOfMemory };
+
+    fn from(_error: AllocError) -> Self {
+        Self::OutOfMemory
+    }
+}
