@@ -1,5 +1,5 @@
 -- Lawful rows of a book of checked sizes are sound for a bill.
-use Rattle.std.proofs.Common.{◌≡◌, ℕ, zero, suc, ◌+◌, ◌-◌, ◌*◌, ◌^◌, ◌<◌, ◌≤◌, Bool, true, false, ◌&&◌, ◌||◌, eqb, ltb, leb, List, length, get_or, take, Some, None, sum_by, sym, refl, ap, ◌∙◌, subst, inl, inr, ⊎_elim, add-mul, add-one, arith, take_all}
+use Rattle.std.proofs.Common.{◌≡◌, ℕ, zero, suc, ◌+◌, ◌-◌, ◌*◌, ◌<◌, ◌≤◌, Bool, true, false, ◌&&◌, ◌||◌, eqb, ltb, leb, List, length, get_or, take, Some, None, sum_by, sym, refl, ap, ◌∙◌, subst, inl, inr, ⊎_elim, add-mul, add-one, arith, take_all}
 use Rattle.std.specs.List.{range_with_len}
 use Rattle.std.proofs.ByRecursion.{All-weaker}
 use Rattle.std.proofs.lemmas.List.Elements.{All-from_recursion}

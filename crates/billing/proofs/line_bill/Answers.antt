@@ -1,7 +1,7 @@
-use Rattle.std.proofs.Common.{◌≡◌, length, sym, ap, ◌∙◌, subst, arith}
+use Rattle.std.proofs.Common.{sym, ap, ◌∙◌, subst, arith}
 use Rattle.tariff.specs.declared.rows.Sizes.{Sizes}
 use Rattle.lines.specs.Checked.{sizes_of}
-use Rattle.bill_rules.specs.Bill.{Lengths, told, column_after}
+use Rattle.bill_rules.specs.Bill.{told, column_after}
 use Rattle.bill_rules.proofs.Balance.{close}
 use Rattle.bill_rules.proofs.Agreement.{laws_of_billing}
 use Rattle.billing.specs.Work.{line_figures, Sound}
