@@ -1,7 +1,7 @@
 -- Rows that agree on a line are billed alike.
 use Rattle.std.proofs.Common.{◌≡◌, ℕ, ◌*◌, ◌/◌, ◌<◌, Bool, true, false, cond, not, ◌&&◌, ◌||◌, eqb, ltb, leb, List, [], ◌∷◌, ◌++◌, map, length, get_or, ℤ, pos, ◌-ℤ◌, is_some, Some, None, Ok, sum_by, sum, Option, sym, refl, ap, ◌∙◌, subst, ⊎_elim, arith}
 use Rattle.std.specs.List.{range_with_len, flat_map, AllByRecursion}
-use Rattle.std.proofs.ByRecursion.{All-weaker, All-append, All-from_get_or}
+use Rattle.std.proofs.ByRecursion.{All-weaker, All-append, All-from_get_or, All-get_or, All-map}
 use Rattle.std.proofs.lemmas.List.FromFn.{length-range_with_len, get_or-range_with_len}
 use Rattle.std.proofs.lemmas.Bool.{or_parts, or_cases, eqb-true, false≢true}
 use Rattle.tariff.specs.declared.refusal.Refusal.{Refusal}
@@ -40,10 +40,6 @@ all_of_map : {X Y : Type 0} (P : Y → Type 0) (f : X → Y) (xs : List X) → A
 all_of_map P f [] all = tt
 all_of_map P f (x ∷ xs) (p, all) = (p, all_of_map P f xs all)
 
-all_to_map : {X Y : Type 0} (P : Y → Type 0) (f : X → Y) (xs : List X) → AllByRecursion (λ x. P (f x)) xs → AllByRecursion P (map f xs)
-all_to_map P f [] all = tt
-all_to_map P f (x ∷ xs) (p, all) = (p, all_to_map P f xs all)
-
 all_of_joined : {X Y : Type 0} (P : Y → Type 0) (f : X → List Y) (xs : List X) → AllByRecursion P (flat_map f xs) → AllByRecursion (λ x. AllByRecursion P (f x)) xs
 all_of_joined P f [] all = tt
 all_of_joined P f (x ∷ xs) all = let r = all_split P (f x) (flat_map f xs) all in (r.0, all_of_joined P f xs r.1)
@@ -51,10 +47,6 @@ all_of_joined P f (x ∷ xs) all = let r = all_split P (f x) (flat_map f xs) all
 all_joined : {X Y : Type 0} (P : Y → Type 0) (f : X → List Y) (xs : List X) → AllByRecursion (λ x. AllByRecursion P (f x)) xs → AllByRecursion P (flat_map f xs)
 all_joined P f [] all = tt
 all_joined P f (x ∷ xs) (p, all) = All-append P (f x) (flat_map f xs) p (all_joined P f xs all)
-
-all_both : {X : Type 0} (P Q : X → Type 0) (xs : List X) → AllByRecursion P xs → AllByRecursion Q xs → AllByRecursion (λ x. P x × Q x) xs
-all_both P Q [] p q = tt
-all_both P Q (x ∷ xs) (p, ps) (q, qs) = ((p, q), all_both P Q xs ps qs)
 
 pub all_counting : (P : ℕ → Type 0) (n : ℕ) → ((k : ℕ) → k < n → P k) → AllByRecursion P (range_with_len 0 n)
 all_counting P n h =
@@ -71,7 +63,7 @@ by_days : (P Q : Cell → Type 0) (areas days hours : List ℕ) → ((a d : ℕ)
 by_days P Q areas days hours go all =
     all_joined Q (λ a. map (λ d. cell a d 0) days) areas
     (All-weaker (λ a. AllByRecursion P (flat_map (λ d. map (cell a d) hours) days)) (λ a. AllByRecursion Q (map (λ d. cell a d 0) days))
-    (λ a here. all_to_map Q (λ d. cell a d 0) days
+    (λ a here. All-map Q (λ d. cell a d 0) days
     (All-weaker (λ d. AllByRecursion P (map (cell a d) hours)) (λ d. Q (cell a d 0)) (λ d at. go a d (all_of_map P (cell a d) hours at)) days
     (all_of_joined P (λ d. map (cell a d) hours) days here)))
     areas (all_of_joined P (λ a. flat_map (λ d. map (cell a d) hours) days) areas all))
@@ -232,10 +224,7 @@ module _ (m : Meaning) (l : Line) (z : Sizes) (us us' : List UnitRow) (cs cs' : 
 
   -- cells that agree make days that agree
   same_cells : AgreeOn l z us us' cs cs' → AllByRecursion Same (cells l z)
-  same_cells agree =
-      All-weaker (λ c. (cost_in l.number cs c ≡ cost_in l.number cs' c) × ((k : ℕ) → k < z.customers → units_of l.counted us c k ≡ units_of l.counted us' c k)) Same
-      (λ c p. record { pools = p.0; units = p.1 }) (cells l z)
-      (all_both (λ c. cost_in l.number cs c ≡ cost_in l.number cs' c) (λ c. (k : ℕ) → k < z.customers → units_of l.counted us c k ≡ units_of l.counted us' c k) (cells l z) agree.pools_alike agree.counted_alike)
+  same_cells agree = All-from_get_or Same (cells l z) (cell 0 0 0) (λ i lt. record { pools = agree.pools_alike i (cell 0 0 0) lt; units = agree.counted_alike i (cell 0 0 0) lt })
 
   same_days : (n : ℕ) → line_of n ≡ Some l → LawfulRows z us cs → LawfulRows z us' cs' → AllByRecursion Same (cells l z) → AllByRecursion Same (flat_map (λ a. map (λ d. cell a d 0) (days l z)) (areas l z))
   same_days n is lawful lawful' at = by_days Same Same (areas l z) (days l z) (hours l)
@@ -260,7 +249,8 @@ module _ (m : Meaning) (l : Line) (z : Sizes) (us us' : List UnitRow) (cs cs' : 
 
   same_on : (n : ℕ) → line_of n ≡ Some l → LawfulRows z us cs → LawfulRows z us' cs' → AgreeOn l z us us' cs cs' → AllByRecursion (λ d. Same d × SameStation d) (station_days l z)
   same_on n is lawful lawful' agree =
-      all_both Same SameStation (station_days l z) (station_days_alike n is lawful lawful' (same_cells agree) l.station refl) agree.stations_alike
+      let same = station_days_alike n is lawful lawful' (same_cells agree) l.station refl in
+      All-from_get_or (λ d. Same d × SameStation d) (station_days l z) (cell 0 0 0) (λ i lt. (All-get_or Same (station_days l z) i (cell 0 0 0) lt same, agree.stations_alike i (cell 0 0 0) lt))
 
 -- lawful rows leave the refusals of columns, line and R
 past_rows : (z : Sizes) (us : List UnitRow) (cs : List CostRow) (ts : List (Bool × Refusal)) → LawfulRows z us cs → first_of (unit_faults z us ++ (cost_faults z cs ++ ts)) ≡ first_of ts

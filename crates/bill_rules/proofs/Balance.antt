@@ -111,12 +111,12 @@ module _ (m : Meaning) (law : Lawful m) (l : Line) (z : Sizes) (units : List Uni
           omega (arith, ints)
       go false e = omega (arith, ints)
 
-  pub charges_balance : (n : ℕ) → line_of n ≡ Some l → AllByRecursion (λ r. unlawful_cost z r ≡ false) costs →
-      (pos (sum (figures m l z units costs).charges) +ℤ (figures m l z units costs).short) +ℤ (figures m l z units costs).stranded ≡ pos (line_costs n costs)
-  charges_balance n is all =
+  pub charges_balance : sum_by (cost_in l.number costs) (cells l z) ≡ line_costs l.number costs →
+      (pos (sum (figures m l z units costs).charges) +ℤ (figures m l z units costs).short) +ℤ (figures m l z units costs).stranded ≡ pos (line_costs l.number costs)
+  charges_balance once =
       ap (λ x. (pos x +ℤ (figures m l z units costs).short) +ℤ (figures m l z units costs).stranded) (column_sum (pool m l z units costs) (cells l z))
       ∙ sums_balance (λ c. sum (shares m l z units costs c)) (stranded_of m l z units costs) (pool m l z units costs) (short_of m l z units costs) (cells l z) cell_balance
-      ∙ ap pos (ap (λ k. sum_by (cost_in k costs) (cells l z)) (sym (line_found n l is)) ∙ costs_once l n z costs is all)
+      ∙ ap pos once
 
   station_sum : (ds : List Cell) → sum (column m l z units costs (station_of m l z units costs) ds) ≡ sum_by (recovered m l z units costs) ds
   station_sum ds =
@@ -137,7 +137,10 @@ module _ (m : Meaning) (law : Lawful m) (l : Line) (z : Sizes) (units : List Uni
   pub balanced : (n : ℕ) → line_of n ≡ Some l → AllByRecursion (λ r. unlawful_cost z r ≡ false) costs → Balances (figures m l z units costs) (line_costs n costs)
   balanced n is all =
       let f = figures m l z units costs in
-      joins (sum f.charges) (sum f.stations) (sum f.credits) (line_costs n costs) f.short f.over f.stranded (charges_balance n is all) credits_balance
+      let same = line_found n l is in
+      let once = subst (λ n. sum_by (cost_in n costs) (cells l z) ≡ line_costs n costs) same (costs_once l n z costs is all) in
+      let charged = charges_balance once ∙ ap (λ n. pos (line_costs n costs)) (sym same) in
+      joins (sum f.charges) (sum f.stations) (sum f.credits) (line_costs n costs) f.short f.over f.stranded charged credits_balance
     where
       joins : (charges stations credits all : ℕ) (short over stranded : ℤ) → (pos charges +ℤ short) +ℤ stranded ≡ pos all → pos credits +ℤ over ≡ pos stations →
           (((((pos charges +ℤ pos stations) -ℤ pos credits) +ℤ short) -ℤ over) +ℤ stranded) ≡ pos all

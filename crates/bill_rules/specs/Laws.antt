@@ -6,7 +6,7 @@
 --   AgreeOn, Agree  two sets of rows agree on a line
 --   LawsOfBilling   accepted bills balance and are close, and rows that agree are billed alike
 use Rattle.std.specs.Prelude.{◌≡◌, ℕ, ◌+◌, ◌*◌, ◌<◌, List, ℤ, pos, ◌+ℤ◌, ◌-ℤ◌, Some, None, Ok, sum, Option}
-use Rattle.std.specs.List.{AllByRecursion}
+use Rattle.std.specs.List.{All}
 use Rattle.tariff.specs.declared.rows.Sizes.{Sizes}
 use Rattle.tariff.specs.declared.rows.UnitRow.{UnitRow}
 use Rattle.tariff.specs.declared.rows.CostRow.{CostRow}
@@ -47,9 +47,9 @@ pub record LawfulRows (z : Sizes) (units : List UnitRow) (costs : List CostRow) 
 -- equal counted units of every customer and equal costs in each cell, and with a station part equal
 -- station units of every customer in each area and day
 pub record AgreeOn (l : Line) (z : Sizes) (units units' : List UnitRow) (costs costs' : List CostRow) : Type 0 where
-  pub counted_alike : AllByRecursion (λ c. (k : ℕ) → k < z.customers → units_of l.counted units c k ≡ units_of l.counted units' c k) (cells l z)
-  pub pools_alike : AllByRecursion (λ c. cost_in l.number costs c ≡ cost_in l.number costs' c) (cells l z)
-  pub stations_alike : AllByRecursion (λ d. (k : ℕ) → k < z.customers → station_units_of l.station units d k ≡ station_units_of l.station units' d k) (station_days l z)
+  pub counted_alike : All (λ c. (k : ℕ) → k < z.customers → units_of l.counted units c k ≡ units_of l.counted units' c k) (cells l z)
+  pub pools_alike : All (λ c. cost_in l.number costs c ≡ cost_in l.number costs' c) (cells l z)
+  pub stations_alike : All (λ d. (k : ℕ) → k < z.customers → station_units_of l.station units d k ≡ station_units_of l.station units' d k) (station_days l z)
 
 -- on a line that does not exist there is nothing to differ
 abbrev pub Agree : Option Line → Sizes → List UnitRow → List UnitRow → List CostRow → List CostRow → Type 0

@@ -1,5 +1,6 @@
 pub mod Adding
-pub mod Credits
+pub mod Charging
+pub mod Crediting
 pub mod Pools
 pub mod Recovers
 pub mod Refuses

@@ -18,7 +18,7 @@ use Rattle.lines.specs.Cells.{cell, in_area, at_time}
 use Rattle.lines.specs.Totals.{belongs, unit_place, all_quantities, part, cost_line, cost_place, cost_amount, cost_in}
 use Rattle.sharing.specs.Rule.{Meaning, Lawful, share_refusal}
 use Rattle.sharing.proofs.Theorems.{laws_of_sharing}
-use Rattle.bill_rules.specs.Bill.{unit_part, units_of, units_in, pool, counted, share_of, stranded_of}
+use Rattle.bill_rules.specs.Bill.{unit_part, units_of, units_in, pool, counted, shares, share_of, stranded_of}
 use Rattle.bill_rules.proofs.Sums.{sum_by_mono, sum_by_swap, sum_by_map, sum_by_eq, sum_by_zero}
 use Rattle.billing.specs.Work.{Sound}
 
@@ -88,14 +88,19 @@ module _ (m : Meaning) (law : Lawful m) (l : Line) (z : Sizes) (units : List Uni
   many_counted c = length-map-range_with_len (units_of l.counted units c) 0 z.customers
 
   -- a pool within the limit meets no refusal
-  pub not_refused : (C : ℕ) (c : Cell) (n : ℕ) → C ≤ most_amount → n ≡ z.customers → share_refusal C (counted m l z units costs c) n ≡ None
-  not_refused C c n le is =
+  pub not_refused : (C : ℕ) (c : Cell) (column : List ℕ) (n : ℕ) → column ≡ counted m l z units costs c → C ≤ most_amount → n ≡ z.customers → share_refusal C column n ≡ None
+  not_refused C c column n is le places =
       let len = many_counted c in
       let most = units_within l.counted units z.customers c in
       let few = sound.customers_few in
       let fit = sound.units_fit in
-      let sum_le : sum (counted m l z units costs c) ≤ most_amount = omega arith in
+      let long : length column ≡ z.customers = ap length is ∙ len in
+      let sum_le : sum column ≤ most_amount = omega (arith, ap sum is) in
       grind (arith, nat_tests)
+
+  -- what a rule writes for a pool by the counted units
+  pub shares_are : (C : ℕ) (c : Cell) (column written : List ℕ) → column ≡ counted m l z units costs c → C ≡ pool m l z units costs c → written ≡ m C column → written ≡ shares m l z units costs c
+  shares_are C c column written is pooled done = done ∙ ap (m C) is ∙ ap (λ C. m C (counted m l z units costs c)) pooled
 
   pub no_pool : (c : Cell) (k : ℕ) → k < z.customers → pool m l z units costs c ≡ 0 → share_of m l z units costs k c ≡ 0
   no_pool c k lt none = ap (λ C. get_or (m C (counted m l z units costs c)) k 0) none ∙ empty_pool m law (counted m l z units costs c) k (omega (arith, many_counted c))

@@ -1,9 +1,10 @@
 -- The refusals of a bill before it is worked out.
-use Rattle.std.proofs.Common.{◌≡◌, ℕ, Bool, false, cond, not, eqb, List, ◌++◌, is_some, is_err, IfOk, Some, None, Ok, Err, sum, Option, Result, sym, refl, ap, ◌∙◌, subst, arith}
+use Rattle.std.proofs.Common.{◌≡◌, ℕ, Bool, true, false, cond, not, ◌&&◌, ◌||◌, eqb, List, [], ◌∷◌, ◌++◌, length, get_or, is_some, is_err, IfOk, Some, None, Ok, Err, sum, Option, Result, sym, refl, ap, ◌∙◌, subst, arith}
+use lib.Pointwise.{pointwise}
 use Rattle.std.specs.Option.{ok_or}
 use Rattle.std.proofs.lemmas.Result.{IfOk-from_err}
 use Rattle.std.proofs.lemmas.Int.{ints}
-use Rattle.std.proofs.lemmas.Bool.{or_from, or_parts, eq-eqb, eqb-true, not_from_true, not-false}
+use Rattle.std.proofs.lemmas.Bool.{or_parts, eqb-true, not-false}
 use Rattle.tariff.specs.declared.refusal.Refusal.{Refusal}
 use Rattle.tariff.specs.declared.refusal.Refusal.TheVariants.{TableUnfit, FieldOutOfRange}
 use Rattle.tariff.specs.declared.rows.Sizes.{Sizes}
@@ -20,17 +21,28 @@ use Rattle.bill_rules.specs.declared.Remainders.{Remainders}
 use Rattle.bill_rules.specs.Bill.{Figures, too_large_for, figures_for, Lengths, misfit, bill_refusal, bill, told, column_after}
 use Rattle.bill_rules.specs.Laws.{Balanced}
 use Rattle.bill_rules.proofs.Agreement.{bill_balances}
-use Rattle.billing.specs.Work.{line_figures, Billable}
+use Rattle.billing.specs.Work.{line_figures, lengths_of, Billable}
 
 pub line_told : (o : Option Line) (l : Line) (e : Refusal) → Ok l ≡ ok_or o e → o ≡ Some l
 line_told None l e h = let q : ◌≡◌ {A = ℕ} 0 1 = cc in absurd (omega arith)
 line_told (Some x) l e h = cc
 
-same_no : (x y : ℕ) → x ≡ y → not (eqb x y) ≡ false
-same_no x y e = not_from_true (eqb x y) (eq-eqb x y e)
+-- whether the columns have one place a customer each, as the code compares them
+not_all : (x y w : Bool) → not (x && (y && (w && true))) ≡ (not x || (not y || not w))
+not_all true true true = refl
+not_all true true false = refl
+not_all true false w = refl
+not_all false y w = refl
 
-pub fitting : (z : Sizes) (p : Lengths) → p.charges ≡ z.customers → p.stations ≡ z.customers → p.credits ≡ z.customers → misfit z p ≡ false
-fitting z p a b c = or_from (not (eqb p.charges z.customers)) _ (same_no _ _ a) (or_from (not (eqb p.stations z.customers)) _ (same_no _ _ b) (same_no _ _ c))
+compared : (ns : List ℕ) (n : ℕ) → length ns ≡ 3 → not (pointwise eqb ns (n ∷ n ∷ n ∷ [])) ≡ (not (eqb (get_or ns 0 0) n) || (not (eqb (get_or ns 1 0) n) || not (eqb (get_or ns 2 0) n)))
+compared [] n three = absurd (omega arith)
+compared (x ∷ []) n three = absurd (omega arith)
+compared (x ∷ y ∷ []) n three = absurd (omega arith)
+compared (x ∷ y ∷ w ∷ []) n three = not_all (eqb x n) (eqb y n) (eqb w n)
+compared (x ∷ y ∷ w ∷ v ∷ rest) n three = absurd (omega arith)
+
+pub misfit_is : (z : Sizes) (ns : List ℕ) (n : ℕ) (b : Bool) → length ns ≡ 3 → n ≡ z.customers → b ≡ not (pointwise eqb ns (n ∷ n ∷ n ∷ [])) → misfit z (lengths_of ns) ≡ b
+misfit_is z ns n b three is e = sym (e ∙ compared ns n three ∙ ap (λ n. not (eqb (get_or ns 0 0) n) || (not (eqb (get_or ns 1 0) n) || not (eqb (get_or ns 2 0) n))) is)
 
 same_yes : (x y : ℕ) → not (eqb x y) ≡ false → x ≡ y
 same_yes x y h = eqb-true x y (not-false (eqb x y) h)

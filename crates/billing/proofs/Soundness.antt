@@ -1,7 +1,8 @@
 -- Lawful rows of a book of checked sizes are sound for a bill.
-use Rattle.std.proofs.Common.{◌≡◌, ℕ, zero, suc, ◌+◌, ◌-◌, ◌*◌, ◌^◌, ◌<◌, ◌≤◌, Bool, true, false, ◌&&◌, ◌||◌, eqb, ltb, leb, List, length, get_or, take, Some, None, sum_by, sym, refl, ap, ◌∙◌, subst, inl, inr, ⊎_elim, add-mul, add-one, arith, take_all}
+use Rattle.std.proofs.Common.{◌≡◌, ℕ, zero, suc, ◌+◌, ◌-◌, ◌*◌, ◌<◌, ◌≤◌, Bool, true, false, ◌&&◌, ◌||◌, eqb, ltb, leb, List, length, get_or, take, Some, None, sum_by, sym, refl, ap, ◌∙◌, subst, inl, inr, ⊎_elim, add-mul, add-one, arith, take_all}
 use Rattle.std.specs.List.{range_with_len}
 use Rattle.std.proofs.ByRecursion.{All-weaker}
+use Rattle.std.proofs.lemmas.List.Elements.{All-from_recursion}
 use Rattle.std.proofs.lemmas.List.Sums.{sum_by-cons, sum_by_more}
 use Rattle.std.proofs.lemmas.Bool.{or_parts, or_cases, and_parts, leb-false, ltb-false, eqb-true, not-false, cases_Bool, cases_lt, false≢true, cond-false}
 use Rattle.tariff.specs.declared.refusal.Refusal.TheVariants.{UnlawfulRow}
@@ -87,7 +88,7 @@ sound_from n l z units costs is fit lawful =
       customers_few = (in_range most_customers z.customers p.0).1;
       days_few = (in_range most_days z.days q.0).1;
       subzones_few = (in_range most_subzones z.subzones q.1).1;
-      customers_known = All-weaker (λ u. unlawful_unit z u ≡ false) (λ (u : UnitRow). u.customer < z.customers) (λ u law. leb-false z.customers u.customer (or_parts (leb z.customers u.customer) _ law).0) units (units_allowed z units lawful.units_lawful);
+      customers_known = All-from_recursion (λ (u : UnitRow). u.customer < z.customers) units (All-weaker (λ u. unlawful_unit z u ≡ false) (λ (u : UnitRow). u.customer < z.customers) (λ u law. leb-false z.customers u.customer (or_parts (leb z.customers u.customer) _ law).0) units (units_allowed z units lawful.units_lawful));
       units_fit = units_limit z units lawful.units_lawful;
       station_dated = λ station has. dated_station n l station is has;
       costs_fit = λ a d h proper.
@@ -95,6 +96,7 @@ sound_from n l z units costs is fit lawful =
           let le = day_limit n l z costs is lawful.costs_lawful a d proper in
           let e : cost_in n costs (cell a d 0) ≡ cost_in l.number costs (cell a d 0) = ap (λ k. cost_in k costs (cell a d 0)) same in
           omega (arith, hour_within l.number costs a d h);
+      costs_once = costs_once l l.number z costs (ap line_of (sym (line_found n l is)) ∙ is) (costs_allowed z costs lawful.costs_lawful);
     }
 
 -- a sum over an axis
@@ -107,19 +109,18 @@ axis_le f true most u each = omega (arith, counted_le f u 1 most (λ x lo. each 
 axis_le f false most u each = omega (arith, each 0 (λ t. absurd (false≢true t), λ _. refl), add-mul most 1 u)
 
 -- the most that the costs of a line come to: 24 hours and one more, 31 days and one more, 32 areas and one more
-pub costs_within : (l : Line) (z : Sizes) (units : List UnitRow) (costs : List CostRow) → line_of l.number ≡ Some l → LawfulRows z units costs → Sound l z units costs → line_costs l.number costs ≤ 56693568280800
-costs_within l z units costs is lawful sound =
+pub line_costs_within : (l : Line) (z : Sizes) (units : List UnitRow) (costs : List CostRow) → Sound l z units costs → line_costs l.number costs ≤ 56693568280800
+line_costs_within l z units costs sound =
     let n = l.number in
     let f = cost_in n costs in
-    let once = costs_once l n z costs is (costs_allowed z costs lawful.costs_lawful) in
     let split = sum_by_grid f (areas l z) (days l z) (hours l) in
     let by-hours : (a d : ℕ) → Proper l a d → sum_by (λ h. f (cell a d h)) (hours l) ≤ 53687091175 = λ a d proper.
     axis_le (λ h. f (cell a d h)) (timed l.span) hours_of_day most_amount (λ h _. sound.costs_fit a d h proper) in
     let by_days : (a : ℕ) → OnAxis (zonal l.area) a → sum_by (λ d. sum_by (λ h. f (cell a d h)) (hours l)) (days l z) ≤ 1717986917600 = λ a on.
     let le = axis_le (λ d. sum_by (λ h. f (cell a d h)) (hours l)) (dated l.span) z.days 53687091175 (λ d day. by-hours a d (record { area_on = on; day_on = day })) in omega (arith, sound.days_few) in
     let all = axis_le (λ a. sum_by (λ d. sum_by (λ h. f (cell a d h)) (hours l)) (days l z)) (zonal l.area) z.subzones 1717986917600 by_days in
-    omega (arith, sound.subzones_few)
+    omega (arith, sound.subzones_few, sound.costs_once)
 
--- all costs of a line are far from the largest number
-pub costs_bounded : (l : Line) (z : Sizes) (units : List UnitRow) (costs : List CostRow) → line_of l.number ≡ Some l → LawfulRows z units costs → Sound l z units costs → line_costs l.number costs ≤ 2 ^ 56
-costs_bounded l z units costs is lawful sound = omega (arith, costs_within l z units costs is lawful sound)
+-- the same, as it is asked for with the rows' lawfulness at hand
+pub costs_within : (l : Line) (z : Sizes) (units : List UnitRow) (costs : List CostRow) → line_of l.number ≡ Some l → LawfulRows z units costs → Sound l z units costs → line_costs l.number costs ≤ 56693568280800
+costs_within l z units costs is lawful sound = line_costs_within l z units costs sound

@@ -1,71 +1,47 @@
--- Loops over the values of a field, adding to a column and to a sum.
-use Rattle.std.proofs.Common.{◌≡◌, ℕ, ◌+◌, ◌-◌, ◌<◌, ◌≤◌, Bool, true, false, cond, List, length, sum_by, sym, ap, ◌∙◌, arith}
-use Rattle.std.specs.List.{range_with_len}
-use Rattle.std.proofs.lemmas.List.FromFn.{sum_by-map-range_with_len_more}
-use Rattle.std.proofs.lemmas.List.{map-id}
+-- Loops over the values of a field.
+use Rattle.std.proofs.Common.{◌≡◌, ℕ, suc, ◌-◌, ◌<◌, ◌≤◌, Bool, true, false, List, [], ◌∷◌, ◌++◌, length, get_or, take, drop, Some, None, Option, sym, refl, ap, ◌∙◌, subst, drop-cons, arith}
+use Rattle.std.specs.declared.ops.Range.{Range}
+use Rattle.std.specs.Iterator.{Yields}
+use Rattle.std.proofs.iter.Yields.{nat_range_steps}
+use Rattle.std.proofs.lemmas.Iterator.{YieldsList, YieldsList-from_range}
+use Rattle.std.proofs.lemmas.Iterator.Consumers.{YieldsList-so_far, YieldsList-turn, YieldsList-end}
+use Rattle.std.proofs.lemmas.List.{map-id, take-append-drop}
+use Rattle.std.proofs.lemmas.List.FromFn.{length-range_with_len, get_or-range_with_len}
+use Rattle.std.proofs.lemmas.Bool.{true≢false}
 use Rattle.lines.specs.Cells.{axis}
-use Rattle.billing.specs.declared.basis.Axis.{Axis}
-use Rattle.billing.specs.Work.{Adds, OnAxis}
+use Rattle.billing.specs.Work.{OnAxis, Spans}
 
-pub count_none : (f : ℕ → ℕ) (a : ℕ) → sum_by f (range_with_len a (a - a)) ≡ 0
-count_none f a = let e : a - a ≡ 0 = omega arith in ap (λ n. sum_by f (range_with_len a n)) e
+-- few values, each of the axis
+pub axis_few : (b : Bool) (most n : ℕ) → most ≤ n → 1 ≤ n → length (axis b most) ≤ n
+axis_few true most n le one = omega (arith, length-range_with_len 1 most)
+axis_few false most n le one = omega arith
 
-pub count_more : (f : ℕ → ℕ) (a x : ℕ) → a ≤ x → sum_by f (range_with_len a (x + 1 - a)) ≡ sum_by f (range_with_len a (x - a)) + f x
-count_more f a x le =
-    let e : x + 1 - a ≡ (x - a) + 1 = omega arith in
-    let plain = λ (n : ℕ). ap (sum_by f) (sym (map-id (range_with_len a n))) in
-    ap (λ n. sum_by f (range_with_len a n)) e ∙ plain ((x - a) + 1)
-    ∙ sum_by-map-range_with_len_more f (λ (n : ℕ). n) a (x - a) x (omega arith)
-    ∙ ap (λ n. n + f x) (sym (plain (x - a)))
+pub on_axis : (b : Bool) (most i x : ℕ) → i < length (axis b most) → x ≡ get_or (axis b most) i x → OnAxis b x
+on_axis true most i x lt is = (λ _. omega (arith, get_or-range_with_len 1 most i x (omega (arith, length-range_with_len 1 most))), λ f. absurd (true≢false f))
+on_axis false most i x lt is = (λ t. absurd (true≢false (sym t)), λ _. let z : i ≡ 0 = omega arith in is ∙ ap (λ i. get_or (0 ∷ []) i x) z)
 
-pub count_next : (f : ℕ → ℕ) (n : ℕ) → sum_by f (range_with_len 0 (n + 1)) ≡ sum_by f (range_with_len 0 n) + f n
-count_next f n =
-    let plain = λ (k : ℕ). ap (sum_by f) (sym (map-id (range_with_len 0 k))) in
-    plain (n + 1) ∙ sum_by-map-range_with_len_more f (λ (k : ℕ). k) 0 n n (omega arith) ∙ ap (λ k. k + f n) (sym (plain n))
+-- what a loop has met at a turn, and when it ends
+pub record Turn (all xs : List ℕ) (x : ℕ) : Type 0 where
+  pub before : length xs < length all
+  pub here : x ≡ get_or all (length xs) x
+  pub split : all ≡ xs ++ x ∷ drop (suc (length xs)) all
 
-pub adds_none : (column : List ℕ) (F : ℕ → ℕ → ℕ) (a : ℕ) → Adds column column (λ k. sum_by (F k) (range_with_len a (a - a)))
-adds_none column F a k h = omega (arith, count_none (F k) a)
+module _ (all : List ℕ) (made it : Range ℕ) (spans : Spans made all) (same : it ≡ made) where
+  road : YieldsList nat_range_steps (λ x. x) it all
+  road = subst (YieldsList nat_range_steps (λ x. x) it) spans (YieldsList-from_range made.start made.end (made.end - made.start) same refl)
 
-pub adds_more : (before mid after : List ℕ) (F : ℕ → ℕ → ℕ) (a x : ℕ) → a ≤ x → length mid ≡ length before → Adds before mid (λ k. sum_by (F k) (range_with_len a (x - a))) → Adds mid after (λ k. F k x) →
-    Adds before after (λ k. sum_by (F k) (range_with_len a (x + 1 - a)))
-adds_more before mid after F a x le long front here k h =
-    omega (arith, front k h, here k (omega arith), count_more (F k) a x le)
+  pub turn : (xs : List ℕ) (s u : Range ℕ) (o : Option ℕ) (x : ℕ) → Yields nat_range_steps it xs s → o ≡ Some x → nat_range_steps s o u → Turn all xs x
+  turn xs s u o x y is step =
+      let t = YieldsList-turn road xs s y o u x is step in
+      let before : take (length xs) all ≡ xs = sym (YieldsList-so_far road xs s y) ∙ map-id xs in
+      record {
+        before = t.0;
+        here = t.1;
+        split =
+            sym (take-append-drop (length xs) all)
+            ∙ ap (λ ys. ys ++ drop (length xs) all) before
+            ∙ ap (λ ys. xs ++ ys) (drop-cons all (length xs) x t.0 ∙ ap (λ y. y ∷ drop (suc (length xs)) all) (sym t.1));
+      }
 
--- an axis as the code has it
-abbrev pub Made : Axis → Bool → ℕ → Type 0
-Made ax b most = ax ≡ record { first = cond b 1 0; end = cond b (most + 1) 1 }
-
-module _ (ax : Axis) (r b : Bool) (most : ℕ) (made : Made ax r most) (is : r ≡ b) where
-  first_is : ax.first ≡ cond b 1 0
-  first_is = ap (λ (x : Axis). x.first) made ∙ ap (λ t. cond t 1 0) is
-
-  end_is : ax.end ≡ cond b (most + 1) 1
-  end_is = ap (λ (x : Axis). x.end) made ∙ ap (λ t. cond t (most + 1) 1) is
-
-  pub end_le : ax.end ≤ most + 1
-  end_le = go b end_is
-    where
-      go : (b : Bool) → ax.end ≡ cond b (most + 1) 1 → ax.end ≤ most + 1
-      go true e = omega arith
-      go false e = omega arith
-
-  pub first_le : ax.first ≤ ax.end
-  first_le = go b first_is end_is
-    where
-      go : (b : Bool) → ax.first ≡ cond b 1 0 → ax.end ≡ cond b (most + 1) 1 → ax.first ≤ ax.end
-      go true p q = omega arith
-      go false p q = omega arith
-
-  pub on_it : (x : ℕ) → ax.first ≤ x → x < ax.end → OnAxis b x
-  on_it x lo hi = (λ t. omega (arith, first_is ∙ ap (λ t. cond t 1 0) t), λ t. omega (arith, end_is ∙ ap (λ t. cond t (most + 1) 1) t))
-
-  pub axis_is : range_with_len ax.first (ax.end - ax.first) ≡ axis b most
-  axis_is = go b first_is end_is
-    where
-      go : (b : Bool) → ax.first ≡ cond b 1 0 → ax.end ≡ cond b (most + 1) 1 → range_with_len ax.first (ax.end - ax.first) ≡ axis b most
-      go true p q = let n : ax.end - ax.first ≡ most = omega arith in ap (λ a. range_with_len a (ax.end - ax.first)) p ∙ ap (range_with_len 1) n
-      go false p q = let n : ax.end - ax.first ≡ 1 = omega arith in ap (λ a. range_with_len a (ax.end - ax.first)) p ∙ ap (range_with_len 0) n
-
-  -- at the end of the loop all values have been met
-  pub all_met : (f : ℕ → ℕ) (x : ℕ) → ax.end ≤ x → x ≤ ax.end → sum_by f (range_with_len ax.first (x - ax.first)) ≡ sum_by f (axis b most)
-  all_met f x lo hi = let e : x ≡ ax.end = omega arith in ap (λ n. sum_by f (range_with_len ax.first (n - ax.first))) e ∙ ap (sum_by f) axis_is
+  pub ended : (xs : List ℕ) (s u : Range ℕ) (o : Option ℕ) → Yields nat_range_steps it xs s → o ≡ None → nat_range_steps s o u → xs ≡ all
+  ended xs s u o y is step = sym (map-id xs) ∙ (YieldsList-end road xs s y o u is step).0

@@ -7,10 +7,13 @@
 --   charged_in, stranded_in  what a customer is charged of some cells, and what of them is stranded
 --   Credited                 what the station part of some areas and days has added to its two columns
 --   line_figures             the figures of a line, or the first R that is too large
+--   lengths_of               the places of the three columns, from a list of them
 --   Billable                 what is known of rows and columns that are not refused
 --   Sound                    what the calculation knows of a book's sizes and lawful rows
-use Rattle.std.specs.Prelude.{◌≡◌, ℕ, ◌+◌, ◌<◌, ◌≤◌, Bool, true, false, List, length, Some, sum_by, Result, slice_index}
-use Rattle.std.specs.List.{AllByRecursion}
+--   Spans                    a range has these values
+use Rattle.std.specs.Prelude.{◌≡◌, ℕ, ◌+◌, ◌-◌, ◌<◌, ◌≤◌, Bool, true, false, List, length, Some, sum_by, Result, slice_index}
+use Rattle.std.specs.List.{range_with_len, All}
+use Rattle.std.specs.declared.ops.Range.{Range}
 use Rattle.tariff.specs.declared.refusal.Refusal.{Refusal}
 use Rattle.tariff.specs.declared.rows.Sizes.{Sizes}
 use Rattle.tariff.specs.declared.rows.UnitRow.{UnitRow}
@@ -20,8 +23,8 @@ use Rattle.tariff.specs.Refusals.{first_of, answer}
 use Rattle.lines.specs.declared.cell.Cell.{Cell}
 use Rattle.lines.specs.declared.line.Line.{Line}
 use Rattle.lines.specs.Lines.{zonal, dated, line_of}
-use Rattle.lines.specs.Cells.{cell}
-use Rattle.lines.specs.Totals.{all_quantities, cost_in}
+use Rattle.lines.specs.Cells.{cell, cells}
+use Rattle.lines.specs.Totals.{all_quantities, cost_in, line_costs}
 use Rattle.sharing.specs.Rule.{Meaning}
 use Rattle.bill_rules.specs.Bill.{share_of, stranded_of, station_of, credit_of, Figures, figures, too_large, Lengths, misfit}
 use Rattle.bill_rules.specs.Laws.{LawfulRows}
@@ -59,15 +62,22 @@ pub record Sound (l : Line) (z : Sizes) (units : List UnitRow) (costs : List Cos
   pub customers_few : z.customers ≤ most_customers
   pub days_few : z.days ≤ most_days
   pub subzones_few : z.subzones ≤ most_subzones
-  pub customers_known : AllByRecursion (λ (u : UnitRow). u.customer < z.customers) units
+  pub customers_known : All (λ (u : UnitRow). u.customer < z.customers) units
   pub units_fit : all_quantities units ≤ most_amount
   pub station_dated : (station : ℕ) → l.station ≡ Some station → dated l.span ≡ true
   pub costs_fit : (a d h : ℕ) → Proper l a d → cost_in l.number costs (cell a d h) ≤ most_amount
+  pub costs_once : sum_by (cost_in l.number costs) (cells l z) ≡ line_costs l.number costs
 
 abbrev pub line_figures : Meaning → Line → Sizes → List UnitRow → List CostRow → Result Figures Refusal
 line_figures m l z units costs = answer (first_of (too_large m l z units costs)) (figures m l z units costs)
+
+abbrev pub lengths_of : List ℕ → Lengths
+lengths_of ns = record { charges = slice_index ns 0; stations = slice_index ns 1; credits = slice_index ns 2 }
 
 pub record Billable (n : ℕ) (l : Line) (z : Sizes) (units : List UnitRow) (costs : List CostRow) (p : Lengths) : Type 0 where
   pub is : line_of n ≡ Some l
   pub fits : misfit z p ≡ false
   pub lawful : LawfulRows z units costs
+
+abbrev pub Spans : Range ℕ → List ℕ → Type 0
+Spans r xs = range_with_len r.start (r.end - r.start) ≡ xs

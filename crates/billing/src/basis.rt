@@ -1,10 +1,14 @@
 // What a bill is worked out from: the line, and lawful rows of a book of some sizes.
-ghost use Rattle.std.specs.Prelude.{◌≡◌, ◌+◌, ◌<◌, ◌≤◌, if◌then◌else◌};
+ghost use Rattle.std.specs.Prelude.{◌≡◌, ◌<◌, ◌≤◌};
 ghost use Rattle.tariff.specs.Limits.{most_amount};
+ghost use Rattle.lines.specs.Cells.{axis as axis_of, areas, days, hours};
 ghost use Rattle.lines.specs.Totals.{cost_in, line_costs};
+ghost use Rattle.billing.specs.Work.{Sound, Spans};
 
 use lines::cell::WHOLE;
 use lines::{Cell, Kinds, Line, total};
+use std::ops::Range;
+use tariff::limits::HOURS_OF_DAY;
 use tariff::{CostRow, Sizes, UnitRow};
 
 #[derive(Clone, Copy)]
@@ -13,6 +17,7 @@ pub(crate) struct Basis<'u, 'c> {
     pub sizes: Sizes,
     pub units: &'u [UnitRow],
     pub costs: &'c [CostRow],
+    ghost sound: { Sound line sizes units.now costs.now },
 }
 
 impl Basis<'_, '_> {
@@ -30,28 +35,33 @@ impl Basis<'_, '_> {
     {
         total(self.costs, Kinds::Only(self.line.number), WHOLE)
     }
-}
 
-// The values of a field: 1 to a most where the line needs the field, else 0 alone. `end` is past
-// the last.
-#[derive(Clone, Copy)]
-pub(crate) struct Axis {
-    pub first: u8,
-    pub end: u8,
-}
-
-impl Axis {
-    pub(crate) fn of(needed: bool, most: u8) -> Axis
-        requires { most < 255 }
-        ensures { result ≡ record { first = (if needed then 1 else 0); end = (if needed then most + 1 else 1) } }
+    // The areas of the line.
+    pub(crate) fn areas(self) -> Range<u8>
+        ensures { Spans result (areas self.entry.line self.entry.sizes) }
     {
-        if needed {
-            Axis {
-                first: 1,
-                end: most + 1,
-            }
-        } else {
-            Axis { first: 0, end: 1 }
-        }
+        axis(self.line.area.zonal(), self.sizes.subzones)
     }
+
+    // Its days.
+    pub(crate) fn days(self) -> Range<u8>
+        ensures { Spans result (days self.entry.line self.entry.sizes) }
+    {
+        axis(self.line.span.dated(), self.sizes.days)
+    }
+
+    // Its hours.
+    pub(crate) fn hours(self) -> Range<u8>
+        ensures { Spans result (hours self.entry.line) }
+    {
+        axis(self.line.span.timed(), HOURS_OF_DAY)
+    }
+}
+
+// The values of a field: 1 to a most where the line needs the field, else 0 alone.
+fn axis(needed: bool, most: u8) -> Range<u8>
+    requires { most < 255 }
+    ensures { Spans result (axis_of needed most) }
+{
+    if needed { 1..most + 1 } else { 0..1 }
 }

@@ -1,7 +1,7 @@
 // Columns with one figure a customer.
-ghost use Rattle.std.specs.Prelude.{◌≡◌, ℕ, ◌+◌, ◌*◌, ◌^◌, ◌<◌, ◌≤◌, length, sum, slice_index};
-ghost use Rattle.std.specs.List.{AllByRecursion};
-ghost use Rattle.tariff.specs.Limits.{most_amount, most_customers};
+ghost use Rattle.std.specs.Prelude.{◌≡◌, ◌+◌, ◌^◌, ◌<◌, ◌≤◌, length, slice_index};
+ghost use Rattle.std.specs.List.{All};
+ghost use Rattle.tariff.specs.Limits.{most_amount};
 ghost use Rattle.lines.specs.Totals.{all_quantities};
 ghost use Rattle.bill_rules.specs.Bill.{unit_part, units_in};
 ghost use Rattle.billing.specs.Work.{Adds, Upto};
@@ -9,21 +9,6 @@ ghost use Rattle.billing.specs.Work.{Adds, Upto};
 use lines::totals::belongs;
 use lines::{Cell, Kinds, Row};
 use tariff::UnitRow;
-
-// Room to work in: a column of units for the most customers.
-pub(crate) fn blank_units() -> [u32; 256]
-    ensures { length result ≡ most_customers }
-{
-    [0; 256]
-}
-
-// The same for cents; it holds no cents yet.
-pub(crate) fn blank_cents() -> [u64; 256]
-    ensures long { length result ≡ most_customers }
-    ensures none { Upto result 0 }
-{
-    [0; 256]
-}
 
 // Adds a row's quantity to its customer's figure, if the row is of these uses and in the cell.
 fn add_row(column: &mut [u32], uses: Kinds, cell: Cell, row: &UnitRow)
@@ -37,7 +22,7 @@ fn add_row(column: &mut [u32], uses: Kinds, cell: Cell, row: &UnitRow)
 
 // Each customer's units of these uses in the cell.
 pub(crate) fn fill_units(units: &[UnitRow], uses: Kinds, cell: Cell, column: &mut [u32])
-    requires known { AllByRecursion (λ u. u.customer < length column.old) units.now }
+    requires known { All (λ u. u.customer < length column.old) units.now }
     requires small { all_quantities units.now ≤ most_amount }
     ensures { column.new ≡ units_in uses units.now (length column.old) cell }
 {
@@ -47,62 +32,14 @@ pub(crate) fn fill_units(units: &[UnitRow], uses: Kinds, cell: Cell, column: &mu
     }
 }
 
-// The same for two sets of uses, in one pass over the rows.
-pub(crate) fn fill_both(
-    units: &[UnitRow],
-    cell: Cell,
-    uses: Kinds,
-    column: &mut [u32],
-    other_uses: Kinds,
-    other_column: &mut [u32],
-)
-    requires known { AllByRecursion (λ u. u.customer < length column.old) units.now }
-    requires other_known { AllByRecursion (λ u. u.customer < length other_column.old) units.now }
-    requires small { all_quantities units.now ≤ most_amount }
-    ensures first { column.new ≡ units_in uses units.now (length column.old) cell }
-    ensures second { other_column.new ≡ units_in other_uses units.now (length other_column.old) cell }
-{
-    column.fill(0);
-    other_column.fill(0);
-    for row in units {
-        add_row(column, uses, cell, row);
-        add_row(other_column, other_uses, cell, row);
-    }
-}
-
 // Adds a column to another.
 pub(crate) fn add_column(onto: &mut [u64], column: &[u32])
     requires places { length onto.old ≡ length column.now }
     requires room { Upto onto.old (2 ^ 63) }
     ensures { Adds onto.old onto.new (λ k. slice_index column.now k) }
 {
+    // by the index: of what `onto.iter_mut().zip(column)` writes a proof knows the length alone
     for (i, figure) in column.iter().enumerate() {
         onto[i] += u64::from(*figure);
     }
-}
-
-// The sum of a column of at most 256 figures.
-pub(crate) fn column_total(column: &[u32]) -> u64
-    requires { length column.now ≤ most_customers }
-    ensures { result ≡ sum column.now }
-{
-    let mut total: u64 = 0;
-    for figure in column {
-        total += u64::from(*figure);
-    }
-    total
-}
-
-// The sum of a column of at most 256 figures of cents.
-pub(crate) fn column_cents(column: &[u64]) -> u64
-    requires few { length column.now ≤ most_customers }
-    requires small { Upto column.now (2 ^ 48) }
-    ensures value { result ≡ sum column.now }
-    ensures bound { result ≤ 2 ^ 56 }
-{
-    let mut total: u64 = 0;
-    for figure in column {
-        total += *figure;
-    }
-    total
 }

@@ -15,33 +15,29 @@ ghost use Rattle.lines.specs.Totals.{line_costs};
 ghost use Rattle.lines.specs.Checked.{sizes_of};
 ghost use Rattle.bill_rules.specs.Bill.{bill_refusal, bill, told, column_after};
 ghost use Rattle.bill_rules.specs.Laws.{Balanced, Close, LawfulRows, LawsOfBilling};
-ghost use Rattle.billing.specs.Work.{Upto, line_figures, Billable, Sound};
+ghost use Rattle.billing.specs.Work.{lengths_of, Billable};
+ghost use Rattle.billing.specs.Parts.{figures_on};
 
 use basis::Basis;
 use bill_rules::Remainders;
-use charges::charge_line;
-use columns::blank_cents;
 use lines::{BookSizes, Line};
 use remainders::remainders;
 use sharing::SharingRule;
-use stations::station_part;
 use tariff::{CostRow, Refusal, UnitRow};
 
 // The line of a number, unless the columns do not fit, there is no such line, or a row is unlawful.
+// `columns` are the lengths of the three.
 fn billable(
     line: u8,
     sizes: &BookSizes,
     units: &[UnitRow],
     costs: &[CostRow],
-    charges: usize,
-    stations: usize,
-    credits: usize,
+    columns: [usize; 3],
 ) -> Result<Line, Refusal>
-    ensures { MatchResult result (λ l. Billable line l (sizes_of sizes.now) units.now costs.now (record { charges = charges; stations = stations; credits = credits }))
-        (λ e. (m : Meaning) → bill_refusal m line (sizes_of sizes.now) units.now costs.now (record { charges = charges; stations = stations; credits = credits }) ≡ Some e) }
+    ensures { MatchResult result (λ l. Billable line l (sizes_of sizes.now) units.now costs.now (lengths_of columns))
+        (λ e. (m : Meaning) → bill_refusal m line (sizes_of sizes.now) units.now costs.now (lengths_of columns) ≡ Some e) }
 {
-    let customers = usize::from(sizes.sizes().customers);
-    if charges != customers || stations != customers || credits != customers {
+    if columns != [usize::from(sizes.sizes().customers); 3] {
         return Err(Refusal::TableUnfit);
     }
     let line = Line::of(line)?;
@@ -54,35 +50,37 @@ fn billable(
     Ok(line)
 }
 
-// Works the figures of a line out. The station part goes first, into columns to work in, since it
-// alone can still be refused: the caller's columns are written only when nothing can.
-fn fill_columns<R: SharingRule>(
-    rule: &mut R,
-    basis: Basis,
-    station_work: &mut [u64],
-    credit_work: &mut [u64],
-    charges: &mut [u64],
-    stations: &mut [u64],
-    credits: &mut [u64],
-) -> Result<Remainders, Refusal>
-    requires sound { Sound basis.line basis.sizes basis.units.now basis.costs.now }
-    requires line { (n : ℕ) × (line_of n ≡ Some basis.line) }
-    requires lawful { LawfulRows basis.sizes basis.units.now basis.costs.now }
-    requires places { (length charges.old ≡ basis.sizes.customers) × (length stations.old ≡ basis.sizes.customers) × (length credits.old ≡ basis.sizes.customers) }
-    requires work_places { (length station_work.old ≡ basis.sizes.customers) × (length credit_work.old ≡ basis.sizes.customers) }
-    requires zeros { Upto station_work.old 0 × Upto credit_work.old 0 }
-    ensures answers { result ≡ told (line_figures (R.meaning rule.old) basis.entry.line basis.entry.sizes basis.entry.units.now basis.entry.costs.now) }
-    ensures charges { charges.new ≡ column_after (line_figures (R.meaning rule.old) basis.entry.line basis.entry.sizes basis.entry.units.now basis.entry.costs.now) (λ f. f.charges) charges.old }
-    ensures stations { stations.new ≡ column_after (line_figures (R.meaning rule.old) basis.entry.line basis.entry.sizes basis.entry.units.now basis.entry.costs.now) (λ f. f.stations) stations.old }
-    ensures credits { credits.new ≡ column_after (line_figures (R.meaning rule.old) basis.entry.line basis.entry.sizes basis.entry.units.now basis.entry.costs.now) (λ f. f.credits) credits.old }
-    ensures means { R.meaning rule.new ≡ R.meaning rule.old }
-{
-    station_part(rule, basis, station_work, credit_work)?;
-    stations.copy_from_slice(station_work);
-    credits.copy_from_slice(credit_work);
-    charges.fill(0);
-    let stranded = charge_line(rule, basis, charges);
-    Ok(remainders(basis.all_costs(), stranded, charges, stations, credits))
+impl Basis<'_, '_> {
+    // Works the figures of a line out. The station part goes first, into columns to work in, since
+    // it alone can still be refused: the caller's columns are written only when nothing can. The
+    // columns stay three slices: each is the caller's and may have a wrong length, and of a struct
+    // that lends them a contract sees nested pairs at the end and no names.
+    fn fill_columns<R: SharingRule>(
+        self,
+        rule: &mut R,
+        charges: &mut [u64],
+        stations: &mut [u64],
+        credits: &mut [u64],
+    ) -> Result<Remainders, Refusal>
+        requires { (length charges.old ≡ self.sizes.customers) × (length stations.old ≡ self.sizes.customers) × (length credits.old ≡ self.sizes.customers) }
+        ensures answers { result ≡ told (figures_on (R.meaning rule.old) self.entry) }
+        ensures charges { charges.new ≡ column_after (figures_on (R.meaning rule.old) self.entry) (λ f. f.charges) charges.old }
+        ensures stations { stations.new ≡ column_after (figures_on (R.meaning rule.old) self.entry) (λ f. f.stations) stations.old }
+        ensures credits { credits.new ≡ column_after (figures_on (R.meaning rule.old) self.entry) (λ f. f.credits) credits.old }
+        ensures means { R.meaning rule.new ≡ R.meaning rule.old }
+    {
+        let customers = usize::from(self.sizes.customers);
+        let mut station_work = [0; 256];
+        let station_work = &mut station_work[..customers];
+        let mut credit_work = [0; 256];
+        let credit_work = &mut credit_work[..customers];
+        self.station_part(rule, station_work, credit_work)?;
+        stations.copy_from_slice(station_work);
+        credits.copy_from_slice(credit_work);
+        charges.fill(0);
+        let stranded = self.charge_line(rule, charges);
+        Ok(remainders(self.all_costs(), stranded, charges, stations, credits))
+    }
 }
 
 // The bill of a line over the rows of a book, by any sharing rule. It answers what is short, over
@@ -109,15 +107,8 @@ pub fn line_bill<R: SharingRule>(
     ensures lawful { Lawful (R.meaning rule.old) }
     ensures laws { LawsOfBilling }
 {
-    let line = billable(
-        line,
-        sizes,
-        units,
-        costs,
-        charges.len(),
-        stations.len(),
-        credits.len(),
-    )?;
+    let columns = [charges.len(), stations.len(), credits.len()];
+    let line = billable(line, sizes, units, costs, columns)?;
     let sizes = sizes.sizes();
     let basis = Basis {
         line,
@@ -125,16 +116,5 @@ pub fn line_bill<R: SharingRule>(
         units,
         costs,
     };
-    let customers = usize::from(sizes.customers);
-    let mut station_work = blank_cents();
-    let mut credit_work = blank_cents();
-    fill_columns(
-        rule,
-        basis,
-        &mut station_work[0..customers],
-        &mut credit_work[0..customers],
-        charges,
-        stations,
-        credits,
-    )
+    basis.fill_columns(rule, charges, stations, credits)
 }

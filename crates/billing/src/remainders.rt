@@ -1,10 +1,20 @@
 // What a bill leaves beside its columns.
-ghost use Rattle.std.specs.Prelude.{◌≡◌, ◌^◌, ◌≤◌, length, pos, ◌-ℤ◌, sum};
+ghost use Rattle.std.specs.Prelude.{◌≡◌, ◌^◌, ◌≤◌, length, pos, ◌-ℤ◌, ◌≤ℤ◌, sum};
 ghost use Rattle.tariff.specs.Limits.{most_customers};
 ghost use Rattle.billing.specs.Work.{Upto};
 
-use crate::columns::column_cents;
 use bill_rules::Remainders;
+use sharing::column_total;
+
+// The sum of a column of cents.
+fn cents(column: &[u64]) -> i64
+    requires few { length column.now ≤ most_customers }
+    requires small { Upto column.now (2 ^ 48) }
+    ensures value { result ≡ pos (sum column.now) }
+    ensures bound { result ≤ℤ pos (2 ^ 56) }
+{
+    column_total(column) as i64
+}
 
 // The costs that were neither charged nor stranded, and the station charges that were not credited.
 pub(crate) fn remainders(
@@ -21,8 +31,8 @@ pub(crate) fn remainders(
 {
     let stranded = stranded as i64;
     Remainders {
-        short: all as i64 - stranded - column_cents(charges) as i64,
-        over: column_cents(stations) as i64 - column_cents(credits) as i64,
+        short: all as i64 - stranded - cents(charges),
+        over: cents(stations) - cents(credits),
         stranded,
     }
 }

@@ -3,7 +3,7 @@ use Rattle.std.proofs.lemmas.List.FromFn.{fill_by_all}
 use Rattle.std.proofs.lemmas.List.{get_or-replicate}
 use Rattle.lines.specs.Rows.{no_units}
 use Rattle.bill_rules.specs.Bill.{units_of}
-use Rattle.billing.proofs.Adding.{units_more, room_for, known_at}
+use Rattle.billing.proofs.Adding.{units_more, room_for}
 use Rattle.billing.proofs.columns.fill_units.Goals as goal
 
 pub loop-row-init : goal.loop-row-init
@@ -16,7 +16,7 @@ add_row-requires c =
     let i = c.loop-row.row-index in
     let units = c.args.units.now in
     let who = (get_or units i no_units).customer in
-    let known = known_at units (length c.args.column.now) i c.requires.known c.loop-row-test.true in
+    let known = c.requires.known i no_units c.loop-row-test.true in
     (omega arith, omega (arith, c.loop-row.invariant who (omega arith), room_for c.args.uses units c.args.cell i who c.loop-row-test.true, c.requires.small))
 
 pub loop-row-preserved : goal.loop-row-preserved

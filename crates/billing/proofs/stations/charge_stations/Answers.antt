@@ -1,10 +1,17 @@
-use Rattle.std.proofs.Common.{◌≡◌, ℕ, ◌+◌, length, get_or, set, sum_by, ap, ◌∙◌, arith}
+use Rattle.std.proofs.Common.{◌≡◌, ℕ, ◌+◌, length, get_or, set, sum_by, sym, ap, ◌∙◌, arith}
 use Rattle.std.specs.List.{range_with_len}
 use Rattle.std.proofs.lemmas.List.Edits.{fill_by_more}
 use Rattle.std.proofs.lemmas.List.{get_or-set_other}
 use Rattle.bill_rules.specs.Bill.{station_charge}
-use Rattle.billing.proofs.Walks.{count_next}
+use Rattle.std.proofs.lemmas.List.{map-id}
+use Rattle.std.proofs.lemmas.List.FromFn.{sum_by-map-range_with_len_more}
 use Rattle.billing.proofs.stations.charge_stations.Goals as goal
+
+-- one term more
+count_next : (f : ℕ → ℕ) (n : ℕ) → sum_by f (range_with_len 0 (n + 1)) ≡ sum_by f (range_with_len 0 n) + f n
+count_next f n =
+    let plain = λ (k : ℕ). ap (sum_by f) (sym (map-id (range_with_len 0 k))) in
+    plain (n + 1) ∙ sum_by-map-range_with_len_more f (λ (k : ℕ). k) 0 n n (omega arith) ∙ ap (λ k. k + f n) (sym (plain n))
 
 pub station_charge-charge-requires : goal.station_charge-charge-requires
 station_charge-charge-requires c = (c.requires.small.0, c.requires.small.1 c.loop-i.i c.loop-i-test.true)
