@@ -41,12 +41,8 @@ fn billable(
         return Err(Refusal::TableUnfit);
     }
     let line = Line::of(line)?;
-    if let Some(refusal) = sizes.unit_fault(units) {
-        return Err(refusal);
-    }
-    if let Some(refusal) = sizes.cost_fault(costs) {
-        return Err(refusal);
-    }
+    sizes.check_units(units)?;
+    sizes.check_costs(costs)?;
     Ok(line)
 }
 
