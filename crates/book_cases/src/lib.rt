@@ -4,7 +4,6 @@
 
 #[cfg(test)]
 mod tests {
-    use bill_rules::Remainders;
     use book::load::RefusedBy;
     use book::{OpenBook, Pass};
     use sharing::Running;
@@ -256,13 +255,6 @@ mod tests {
         Ok(())
     }
 
-    fn refusal_in(answer: Result<Remainders, Refusal>) -> Option<Refusal> {
-        match answer {
-            Ok(_) => None,
-            Err(refusal) => Some(refusal),
-        }
-    }
-
     // A bill needs the rows that the book counts, and a place of each column for each customer.
     #[test]
     fn bills_of_short_tables_and_wrong_columns(rt: HostRuntime) -> Result<(), Fail> {
@@ -290,15 +282,15 @@ mod tests {
         let mut wide = [7; 4];
         let rule = &mut Running;
         let no_units = frozen.bill(rule, &units[0..0], &costs, 3, &mut a, &mut b, &mut c);
-        assert_eq!(rt; refusal_in(no_units), Some(Refusal::TableUnfit));
+        assert_eq!(rt; no_units.err(), Some(Refusal::TableUnfit));
         let no_costs = frozen.bill(rule, &units, &costs[0..0], 3, &mut a, &mut b, &mut c);
-        assert_eq!(rt; refusal_in(no_costs), Some(Refusal::TableUnfit));
+        assert_eq!(rt; no_costs.err(), Some(Refusal::TableUnfit));
         let too_wide = frozen.bill(rule, &units, &costs, 3, &mut a, &mut wide, &mut c);
-        assert_eq!(rt; refusal_in(too_wide), Some(Refusal::TableUnfit));
+        assert_eq!(rt; too_wide.err(), Some(Refusal::TableUnfit));
         assert_eq!(rt; a[0], 7);
         assert_eq!(rt; wide[3], 7);
         let fitting = frozen.bill(rule, &units[0..1], &costs[0..1], 3, &mut a, &mut b, &mut c);
-        assert_eq!(rt; refusal_in(fitting), None);
+        assert_eq!(rt; fitting.err(), None);
         assert_eq!(rt; a[0], 1000);
         Ok(())
     }
@@ -375,9 +367,14 @@ mod tests {
         marks: &[u32],
         pass: &Pass,
         bytes: &[u8],
-    ) -> (usize, u8, usize, RefusedBy) {
+    ) -> (usize, u8, usize, Option<RefusedBy>) {
         let report = book.load(units, costs, marks, pass, bytes);
-        (report.rows, report.number(), report.place, report.by)
+        (
+            report.rows,
+            report.number(),
+            report.place,
+            report.refused.map(|refused| refused.by),
+        )
     }
 
     #[test]
@@ -424,13 +421,13 @@ mod tests {
         );
         let quantity = units[0].quantity;
         let handed = book.hand_in(&mut marks, pass);
-        assert_eq!(rt; half, (1, 8, 25, RefusedBy::Book));
-        assert_eq!(rt; cut, (1, 17, 21, RefusedBy::File));
-        assert_eq!(rt; whole, (1, 0, 25, RefusedBy::Nobody));
-        assert_eq!(rt; empty, (0, 16, 0, RefusedBy::File));
-        assert_eq!(rt; version, (0, 18, 1, RefusedBy::File));
-        assert_eq!(rt; other_sizes, (0, 8, 1, RefusedBy::Book));
-        assert_eq!(rt; short, (0, 2, 0, RefusedBy::Book));
+        assert_eq!(rt; half, (1, 8, 25, Some(RefusedBy::Book)));
+        assert_eq!(rt; cut, (1, 17, 21, Some(RefusedBy::File)));
+        assert_eq!(rt; whole, (1, 0, 25, None));
+        assert_eq!(rt; empty, (0, 16, 0, Some(RefusedBy::File)));
+        assert_eq!(rt; version, (0, 18, 1, Some(RefusedBy::File)));
+        assert_eq!(rt; other_sizes, (0, 8, 1, Some(RefusedBy::Book)));
+        assert_eq!(rt; short, (0, 2, 0, Some(RefusedBy::Book)));
         assert_eq!(rt; quantity, 600);
         assert_eq!(rt; handed, Ok(()));
         Ok(())
