@@ -6,6 +6,8 @@ use Rattle.std.proofs.lemmas.List.{append-nil}
 use Rattle.tariff.specs.declared.refusal.Refusal.{Refusal}
 use Rattle.tariff.specs.declared.refusal.Refusal.TheVariants.{FieldOutOfRange}
 use Rattle.tariff.specs.declared.rows.Sizes.{Sizes}
+use Rattle.tariff.specs.Refusals.{answer}
+use Rattle.tariff.proofs.Refused.{ok_tells}
 use Rattle.unit_file.specs.declared.record.Record.{Record}
 use Rattle.unit_file.specs.Records.{Item, item_of}
 use Rattle.unit_file.specs.Reading.{ordered_at, place_in_order, record_at, next_place, open_refusal, said}
@@ -174,16 +176,45 @@ few_rows (Some call) s n after (same, count) = by (refusal_in (step s call).answ
     by None e = let one : n ≡ 1 = cc in omega arith
     by (Some x) e = let z : ◌≡◌ {A = ℕ} 0 1 = cc in absurd (omega arith)
 
+-- what a step of a load answered, where its refusal is told as given by the file or by the book
+
+abbrev Told : {X : Type 0} → RefusedBy → Result X Refusal → Result X RefusedLoad → Type 0
+Told {X} by r m = MatchResult r (λ (z : X). m ≡ Ok z) (λ e. IsErrAnd m (λ d. d ≡ refused_by by e))
+
+abbrev pub Went : {X : Type 0} → RefusedBy → Result X Refusal → X → Type 0
+Went by r y = Told by r (Ok y)
+
+abbrev pub Stopped : {X : Type 0} → RefusedBy → Result X Refusal → RefusedLoad → Type 0
+Stopped by r x = Told by r (Err x)
+
+pub went : {X : Type 0} (by : RefusedBy) (r : Result X Refusal) (y : X) → Went by r y → r ≡ Ok y
+went by (Ok z) y h = let e : y ≡ z = cc in ap Ok (sym e)
+went by (Err e) y h = absurd h
+
+pub stopped_by : {X : Type 0} (by : RefusedBy) (r : Result X Refusal) (x : RefusedLoad) → Stopped by r x → (e : Refusal) × (r ≡ Err e) × (x ≡ refused_by by e)
+stopped_by by (Ok z) x h = let no : ◌≡◌ {A = ℕ} 0 1 = cc in absurd (omega arith)
+stopped_by by (Err e) x h = (e, refl, h)
+
+pub took : (o : Option Call) (s : State) (r : Result ℕ Refusal) (n : ℕ) (after : State) → Went TheBook r n → Took o s r after → Took o s (Ok n) after
+took o s r n after h t = subst (λ (k : Result ℕ Refusal). Took o s k after) (went TheBook r n h) t
+
+pub let_in : (s : State) (p : Pass) (r : Result (Unit {0}) Refusal) (y : Unit {0}) → r ≡ answer (load_refusal s p) tt → Went TheBook r y → load_refusal s p ≡ None
+let_in s p r y e h = (ok_tells (load_refusal s p) y tt (sym (went TheBook r y h) ∙ e)).0
+
 -- what a reader over the same bytes answered
 
-pub answered : (bs bs' : List ℕ) (place : ℕ) (r : Result (Option Item) Refusal) → r ≡ ordered_at bs' place → bs' ≡ bs → ordered_at bs place ≡ r
-answered bs bs' place r e same = sym (e ∙ ap (λ (b : List ℕ). ordered_at b place) same)
+module _ (bs bs' : List ℕ) (place : ℕ) (r : Result (Option Record) Refusal) (reads : said r ≡ ordered_at bs' place) (same : bs' ≡ bs) where
+  answered : (k : Result (Option Record) Refusal) → r ≡ k → ordered_at bs place ≡ said k
+  answered k is = ap (λ (b : List ℕ). ordered_at b place) (sym same) ∙ sym reads ∙ ap said is
 
-pub found_record : (bs bs' : List ℕ) (place : ℕ) (o : Option Record) (x : Record) → said (Ok o) ≡ ordered_at bs' place → bs' ≡ bs → o ≡ Some x → ordered_at bs place ≡ Ok (Some (item_of x))
-found_record bs bs' place o x e same is = answered bs bs' place (said (Ok o)) e same ∙ ap (λ (y : Option Record). said (Ok y)) is
+  pub found_fault : (x : RefusedLoad) → Stopped File r x → (e : Refusal) × (ordered_at bs place ≡ Err e) × (x ≡ refused_by File e)
+  found_fault x h = let t = stopped_by File r x h in (t.0, answered (Err t.0) t.1, t.2)
 
-pub found_none : (bs bs' : List ℕ) (place : ℕ) (o : Option Record) → said (Ok o) ≡ ordered_at bs' place → bs' ≡ bs → o ≡ None → ordered_at bs place ≡ Ok None
-found_none bs bs' place o e same is = answered bs bs' place (said (Ok o)) e same ∙ ap (λ (y : Option Record). said (Ok y)) is
+  pub found_record : (o : Option Record) (x : Record) → Went File r o → o ≡ Some x → ordered_at bs place ≡ Ok (Some (item_of x))
+  found_record o x h is = answered (Ok o) (went File r o h) ∙ ap (λ (y : Option Record). said (Ok y)) is
+
+  pub found_none : (o : Option Record) → Went File r o → o ≡ None → ordered_at bs place ≡ Ok None
+  found_none o h is = answered (Ok o) (went File r o h) ∙ ap (λ (y : Option Record). said (Ok y)) is
 
 pub stands : (bs bs' : List ℕ) (place next : ℕ) → next ≡ place_in_order bs' place → bs' ≡ bs → next ≡ place_in_order bs place
 stands bs bs' place next e same = e ∙ ap (λ (b : List ℕ). place_in_order b place) same
@@ -206,26 +237,6 @@ load_is s p bs bs' place next o z y b none begins same one read stood sizes book
 -- a load that is one by another term
 pub done_load : (start : State) (all all' : Loading) (now : State) (r : LoadReport) → all' ≡ all → Done start all now r → Done start all' now r
 done_load start all all' now r e d = record { reports = d.reports ∙ ap (λ (l : Loading). l.report) (sym e); makes = d.makes ∙ ap (λ (l : Loading). final start l.calls) (sym e) }
-
--- what a step of a load answered, where its refusal is told as given by the file or by the book
-
-module _ {X : Type 0} (by : RefusedBy) (r : Result X Refusal) where
-  pub went : (y : X) → MatchResult r (λ z. ◌≡◌ {A = Result X RefusedLoad} (Ok y) (Ok z)) (λ e. IsErrAnd {T = X} (Ok y) (λ d. d ≡ refused_by by e)) → r ≡ Ok y
-  went y h = went_by r refl h
-    where
-      went_by : (k : Result X Refusal) → r ≡ k → MatchResult k (λ z. ◌≡◌ {A = Result X RefusedLoad} (Ok y) (Ok z)) (λ e. IsErrAnd {T = X} (Ok y) (λ d. d ≡ refused_by by e)) → r ≡ Ok y
-      went_by (Ok z) is h = let e : y ≡ z = cc in is ∙ ap Ok (sym e)
-      went_by (Err e) is h = absurd h
-
-  pub stopped_by : (x : RefusedLoad) → MatchResult r (λ z. ◌≡◌ {A = Result X RefusedLoad} (Err x) (Ok z)) (λ e. IsErrAnd {T = X} (Err x) (λ d. d ≡ refused_by by e)) → (e : Refusal) × (r ≡ Err e) × (x ≡ refused_by by e)
-  stopped_by x h = stopped_with r refl h
-    where
-      stopped_with : (k : Result X Refusal) → r ≡ k → MatchResult k (λ z. ◌≡◌ {A = Result X RefusedLoad} (Err x) (Ok z)) (λ e. IsErrAnd {T = X} (Err x) (λ d. d ≡ refused_by by e)) → (e : Refusal) × (r ≡ Err e) × (x ≡ refused_by by e)
-      stopped_with (Ok z) is h = let no : ◌≡◌ {A = ℕ} 0 1 = cc in absurd (omega arith)
-      stopped_with (Err e) is h = (e, is, h)
-
-pub took : (o : Option Call) (s : State) (r r' : Result ℕ Refusal) (after : State) → r ≡ r' → Took o s r after → Took o s r' after
-took o s r r' after e t = subst (λ (k : Result ℕ Refusal). Took o s k after) e t
 
 -- a report that a refusal ends
 pub ended_is : (rows rows' place place' : ℕ) (f : Result (Unit {0}) RefusedLoad) (x : RefusedLoad) (e : Refusal) (by : RefusedBy) → rows ≡ rows' → place ≡ place' → IsErrAnd f (λ d. d ≡ x) → x ≡ refused_by by e →

@@ -123,6 +123,7 @@ impl Numbers {
     }
 }
 
+// Tables are parameters: a struct of lent `&mut` slices shows them at exit only as nested pairs.
 impl OpenBook {
     // Appends a unit row, and answers its number, from 0.
     pub fn post(

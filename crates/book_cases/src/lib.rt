@@ -36,6 +36,14 @@ mod tests {
         amount: 1000,
     };
 
+    fn sizes(customers: u16, days: u8, subzones: u8) -> Sizes {
+        Sizes {
+            customers,
+            days,
+            subzones,
+        }
+    }
+
     fn of(hour: u8, quantity: u32) -> UnitRow {
         UnitRow {
             customer: 0,
@@ -60,65 +68,17 @@ mod tests {
     #[test]
     fn sizes_and_marks(rt: HostRuntime) -> Result<(), Fail> {
         let mut marks = [9; 64];
-        assert!(rt;
-            OpenBook::open(
-                Sizes {
-                    customers: 257,
-                    days: 1,
-                    subzones: 1,
-                },
-                1,
-                &mut marks,
-            )
-            .is_err()
-        );
-        assert!(rt;
-            OpenBook::open(
-                Sizes {
-                    customers: 0,
-                    days: 1,
-                    subzones: 1,
-                },
-                1,
-                &mut marks,
-            )
-            .is_err()
-        );
-        assert!(rt;
-            OpenBook::open(
-                Sizes {
-                    customers: 1,
-                    days: 32,
-                    subzones: 1,
-                },
-                1,
-                &mut marks,
-            )
-            .is_err()
-        );
-        assert!(rt;
-            OpenBook::open(
-                Sizes {
-                    customers: 1,
-                    days: 1,
-                    subzones: 33,
-                },
-                1,
-                &mut marks,
-            )
-            .is_err()
-        );
+        for unfit in [
+            sizes(257, 1, 1),
+            sizes(0, 1, 1),
+            sizes(1, 32, 1),
+            sizes(1, 1, 33),
+        ] {
+            assert!(rt; OpenBook::open(unfit, 1, &mut marks).is_err());
+        }
         assert!(rt; OpenBook::open(SIZES, 1, &mut marks[0..63]).is_err());
         assert_eq!(rt; marks[0], 9);
-        let _book = OpenBook::open(
-            Sizes {
-                customers: 256,
-                days: 31,
-                subzones: 32,
-            },
-            1,
-            &mut marks,
-        )?;
+        let _book = OpenBook::open(sizes(256, 31, 32), 1, &mut marks)?;
         assert_eq!(rt; marks, [0; 64]);
         Ok(())
     }
@@ -144,10 +104,9 @@ mod tests {
     fn contributors_63_and_64(rt: HostRuntime) -> Result<(), Fail> {
         let mut marks = [0; 64];
         let mut book = OpenBook::open(SIZES, 7, &mut marks)?;
-        let refused = match book.admit(&mut marks, 64) {
-            Ok(pass) => book.hand_in(&mut marks, pass),
-            Err(refusal) => Err(refusal),
-        };
+        let refused = book
+            .admit(&mut marks, 64)
+            .and_then(|pass| book.hand_in(&mut marks, pass));
         let pass = book.admit(&mut marks, 63)?;
         let number = pass.number();
         let removed = book.remove(&mut marks, 64);
@@ -177,10 +136,9 @@ mod tests {
         let pass = book.admit(&mut marks, 0)?;
         let number = pass.number();
         let handed = book.hand_in(&mut marks, pass);
-        let refused = match book.admit(&mut marks, 0) {
-            Ok(pass) => book.hand_in(&mut marks, pass),
-            Err(refusal) => Err(refusal),
-        };
+        let refused = book
+            .admit(&mut marks, 0)
+            .and_then(|pass| book.hand_in(&mut marks, pass));
         assert_eq!(rt; number, LAST_PASS_NUMBER);
         assert_eq!(rt; handed, Ok(()));
         assert_eq!(rt; refused, Err(Refusal::PassNumbersUsedUp));
@@ -269,12 +227,9 @@ mod tests {
         assert_eq!(rt; posted, Ok(0));
         assert_eq!(rt; added, Ok(0));
         assert_eq!(rt; handed, Ok(()));
-        let frozen = match book.freeze(&marks) {
-            Ok(frozen) => frozen,
-            Err(_) => {
-                assert!(rt; false);
-                return Ok(())
-            },
+        let Ok(frozen) = book.freeze(&marks) else {
+            assert!(rt; false);
+            return Ok(());
         };
         let mut a = [7; 3];
         let mut b = [7; 3];
