@@ -1,2 +1,3 @@
 pub mod Bills
 pub mod Loads
+pub mod Outcomes

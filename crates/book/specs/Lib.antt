@@ -1,3 +1,4 @@
 pub mod Load
 pub mod Shown
+pub mod Tests
 pub mod Told

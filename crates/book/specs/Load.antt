@@ -1,7 +1,10 @@
 -- Loading a unit file into an open book: the posts and costs that it makes, and what it reports.
 --   report_number   the refusal's number, 0 if there is none
+--   refused_by      a refusal, and who gave it
+--   reported        a report: the rows posted, the byte place reached, what stopped the load if anything did
+--   report_refusal  the refusal of a report, if it has one
+--   ended           the report of the rows and the place so far, by what the load answered
 --   Loading         the calls that a load makes, and its report
---   reported        a report: the rows posted, the refusal if any, the byte place reached, who refused
 --   stopped, whole  a load that stops, and one that comes to the end of its file
 --   refusal_in      the refusal that an answer gives
 --   call_for        the call that a record asks for: a unit row is posted, a cost row added, a note skipped
@@ -14,6 +17,7 @@
 --   load_header     a load from its first record on: the header, with the book's sizes
 --   load_of         a load
 use Rattle.std.specs.Prelude.{◌≡◌, ℕ, zero, suc, ◌+◌, Bool, cond, not, ◌&&◌, ◌||◌, List, [], ◌∷◌, length, Some, None, Ok, Err, Option, Result, ◌==◌}
+use Rattle.std.specs.Option.{option_map}
 use Rattle.tariff.specs.declared.refusal.Refusal.{Refusal}
 use Rattle.tariff.specs.declared.refusal.Refusal.TheVariants.{TableUnfit, PassNotValid, FieldOutOfRange, RecordKind}
 use Rattle.tariff.specs.declared.rows.Sizes.{Sizes}
@@ -24,25 +28,36 @@ use Rattle.book_rules.specs.Machine.{Pass, unmarked, valid, short_tables}
 use Rattle.book_rules.specs.Run.{State, Call, post, add_cost, Answer, accepted, gave, row, froze, stayed_open, reopened, billed, refused, not_offered, step, final}
 use Rattle.book.specs.declared.load.LoadReport.{LoadReport}
 use Rattle.book.specs.declared.load.RefusedBy.{RefusedBy}
-use Rattle.book.specs.declared.load.RefusedBy.TheVariants.{Nobody, File, Book as TheBook}
+use Rattle.book.specs.declared.load.RefusedBy.TheVariants.{File, Book as TheBook}
+use Rattle.book.specs.declared.load.RefusedLoad.{RefusedLoad}
 
 abbrev pub report_number : Option Refusal → ℕ
 report_number None = 0
 report_number (Some e) = number e
 
+abbrev pub refused_by : RefusedBy → Refusal → RefusedLoad
+refused_by by e = record { refusal = e; by = by }
+
+abbrev pub reported : ℕ → ℕ → Option RefusedLoad → LoadReport
+reported rows place why = record { rows = rows; place = place; refused = why }
+
+abbrev pub report_refusal : LoadReport → Option Refusal
+report_refusal r = option_map (λ x. x.refusal) r.refused
+
+abbrev pub ended : ℕ → ℕ → Result (Unit {0}) RefusedLoad → LoadReport
+ended rows place (Ok _) = reported rows place None
+ended rows place (Err x) = reported rows place (Some x)
+
 pub record Loading : Type 0 where
   pub calls : List Call
   pub report : LoadReport
 
-abbrev pub reported : ℕ → Option Refusal → ℕ → RefusedBy → LoadReport
-reported rows refusal place by = record { rows = rows; refusal = refusal; place = place; by = by }
-
 -- a load that stops without a call
 abbrev pub stopped : ℕ → Refusal → ℕ → RefusedBy → Loading
-stopped rows e place by = record { calls = []; report = reported rows (Some e) place by }
+stopped rows e place by = record { calls = []; report = reported rows place (Some (refused_by by e)) }
 
 abbrev pub whole : ℕ → List ℕ → Loading
-whole rows bytes = record { calls = []; report = reported rows None (length bytes) Nobody }
+whole rows bytes = record { calls = []; report = reported rows (length bytes) None }
 
 abbrev pub call_for : Pass → Item → Option Call
 call_for p (header z) = None

@@ -6,22 +6,17 @@ ghost use Rattle.book_rules.specs.Run.{step, opened, closed, admit, remove, hand
 ghost use Rattle.book.specs.Shown.{open_book, frozen_book, pass_of};
 ghost use Rattle.book.specs.Told.{told, told_pass};
 
+use crate::marks::{check_marks, mark_of};
 use crate::states::{FrozenBook, OpenBook, Pass};
 use tariff::Refusal;
-use tariff::limits::{CONTRIBUTORS, LAST_PASS_NUMBER};
+use tariff::limits::LAST_PASS_NUMBER;
 
 impl OpenBook {
     // Gives a contributor a pass with the next pass number, which becomes the contributor's mark.
     pub fn admit(&mut self, marks: &mut [u32], contributor: usize) -> Result<Pass, Refusal>
         ensures { (units : List UnitRow) (costs : List CostRow) → step (opened (open_book self.old) units costs marks.old) (admit contributor) ≡ record { state = opened (open_book self.new) units costs marks.new; answer = told_pass result } }
     {
-        if marks.len() != CONTRIBUTORS {
-            return Err(Refusal::TableUnfit);
-        }
-        if contributor >= CONTRIBUTORS {
-            return Err(Refusal::UnknownContributor);
-        }
-        if marks[contributor] != 0 {
+        if mark_of(marks, contributor)? != 0 {
             return Err(Refusal::AlreadyAdmitted);
         }
         if self.numbers.last_pass == LAST_PASS_NUMBER {
@@ -41,13 +36,7 @@ impl OpenBook {
     pub fn remove(&self, marks: &mut [u32], contributor: usize) -> Result<(), Refusal>
         ensures { (units : List UnitRow) (costs : List CostRow) → step (opened (open_book self.now) units costs marks.old) (remove contributor) ≡ record { state = opened (open_book self.now) units costs marks.new; answer = told result } }
     {
-        if marks.len() != CONTRIBUTORS {
-            return Err(Refusal::TableUnfit);
-        }
-        if contributor >= CONTRIBUTORS {
-            return Err(Refusal::UnknownContributor);
-        }
-        if marks[contributor] == 0 {
+        if mark_of(marks, contributor)? == 0 {
             return Err(Refusal::NotAdmitted);
         }
         marks[contributor] = 0;
@@ -58,14 +47,9 @@ impl OpenBook {
     pub fn hand_in(&self, marks: &mut [u32], pass: Pass) -> Result<(), Refusal>
         ensures { (units : List UnitRow) (costs : List CostRow) → step (opened (open_book self.now) units costs marks.old) (hand_in (pass_of pass)) ≡ record { state = opened (open_book self.now) units costs marks.new; answer = told result } }
     {
-        let good = marks.len() == CONTRIBUTORS && self.numbers.accepts(marks, &pass);
+        let checked = self.numbers.check_pass(marks, &pass);
         let holder = pass.spend();
-        if marks.len() != CONTRIBUTORS {
-            return Err(Refusal::TableUnfit);
-        }
-        if !good {
-            return Err(Refusal::PassNotValid);
-        }
+        checked?;
         marks[holder] = 0;
         Ok(())
     }
@@ -77,9 +61,7 @@ impl FrozenBook {
         ensures { (units : List UnitRow) (costs : List CostRow) → step (closed (frozen_book self.now) units costs marks.now) (take_in (pass_of pass)) ≡ record { state = closed (frozen_book self.now) units costs marks.now; answer = told result } }
     {
         pass.spend();
-        if marks.len() != CONTRIBUTORS {
-            return Err(Refusal::TableUnfit);
-        }
+        check_marks(marks)?;
         Err(Refusal::PassNotValid)
     }
 }

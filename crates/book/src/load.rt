@@ -1,15 +1,14 @@
 // A unit file is loaded into an open book through a valid pass.
-ghost use Rattle.std.specs.Prelude.{◌≡◌, ℕ, ◌<◌, ◌≤◌, List, length};
+ghost use Rattle.std.specs.Prelude.{◌≡◌, ◌<◌, ◌≤◌, length, None};
 ghost use Rattle.std.specs.Option.{option_map};
-ghost use Rattle.tariff.specs.declared.rows.UnitRow.{UnitRow};
-ghost use Rattle.tariff.specs.declared.rows.CostRow.{CostRow};
+ghost use Rattle.tariff.specs.Refusals.{answer};
 ghost use Rattle.unit_file.specs.Records.{item_of};
-ghost use Rattle.book_rules.specs.Run.{opened, final};
-ghost use Rattle.book.specs.Load.{report_number, reported, call_for, load_from, Took, Done, same_sizes, header_in, load_refusal, load_of};
+ghost use Rattle.book_rules.specs.Run.{opened};
+ghost use Rattle.book.specs.declared.load.RefusedBy.TheVariants.{File as TheFile, Book as TheBook};
+ghost use Rattle.book.specs.Load.{report_number, report_refusal, refused_by, reported, ended, call_for, load_from, Took, Done, header_in, load_refusal, load_of};
 ghost use Rattle.book.specs.Shown.{numbers_of, open_book, pass_of};
 
 use crate::states::{Numbers, OpenBook, Pass};
-use tariff::limits::CONTRIBUTORS;
 use tariff::{CostRow, Refusal, Sizes, UnitRow};
 use unit_file::reader::Reader;
 use unit_file::record::Record;
@@ -17,41 +16,59 @@ use unit_file::record::Record;
 // Who refused a load: the file by its form, or the book.
 #[derive(Clone, Copy, PartialEq, Eq, Debug)]
 pub enum RefusedBy {
-    Nobody,
     File,
     Book,
 }
 
-// What a load came to: the rows of both kinds that it posted, the refusal that stopped it, the byte
-// place that it reached, and who refused.
-#[derive(Clone, Copy)]
-pub struct LoadReport {
-    pub rows: usize,
-    pub refusal: Option<Refusal>,
-    pub place: usize,
+// The refusal that stopped a load, and who gave it.
+#[derive(Clone, Copy, PartialEq, Eq, Debug)]
+pub struct RefusedLoad {
+    pub refusal: Refusal,
     pub by: RefusedBy,
 }
 
-impl LoadReport {
-    // The number of the refusal, or 0 where nobody refused.
-    pub fn number(&self) -> u8
-        ensures { result ≡ report_number self.now.refusal }
+// What a load came to: the rows of both kinds that it posted, the byte place that it reached, and
+// what stopped it there, if anything did.
+#[derive(Clone, Copy, PartialEq, Eq, Debug)]
+pub struct LoadReport {
+    pub rows: usize,
+    pub place: usize,
+    pub refused: Option<RefusedLoad>,
+}
+
+impl RefusedLoad {
+    fn by_file(refusal: Refusal) -> RefusedLoad
+        ensures { result ≡ refused_by TheFile refusal }
     {
-        match self.refusal {
-            Some(refusal) => refusal.number(),
-            None => 0,
+        RefusedLoad {
+            refusal,
+            by: RefusedBy::File,
+        }
+    }
+
+    fn by_book(refusal: Refusal) -> RefusedLoad
+        ensures { result ≡ refused_by TheBook refusal }
+    {
+        RefusedLoad {
+            refusal,
+            by: RefusedBy::Book,
         }
     }
 }
 
-fn report(rows: usize, refusal: Option<Refusal>, place: usize, by: RefusedBy) -> LoadReport
-    ensures { result ≡ reported rows refusal place by }
-{
-    LoadReport {
-        rows,
-        refusal,
-        place,
-        by,
+impl LoadReport {
+    // The refusal that stopped the load, if one did.
+    pub fn refusal(&self) -> Option<Refusal>
+        ensures { result ≡ report_refusal self.now }
+    {
+        self.refused.map(|refused| refused.refusal)
+    }
+
+    // The number of the refusal, or 0 where nobody refused.
+    pub fn number(&self) -> u8
+        ensures { result ≡ report_number (report_refusal self.now) }
+    {
+        self.refusal().map_or(0, Refusal::number)
     }
 }
 
@@ -65,30 +82,21 @@ fn header_of(first: Option<Record>) -> Result<Sizes, Refusal>
     Ok(sizes)
 }
 
-fn same_sizes(file: Sizes, book: Sizes) -> bool
-    ensures { result ≡ same_sizes file book }
-{
-    file.customers == book.customers && file.days == book.days && file.subzones == book.subzones
-}
-
 impl Numbers {
-    // What refuses a load before any byte is read: the tables' lengths, and then the pass.
-    fn load_refusal(
+    // Refuses a load before any byte is read: by the tables' lengths, and then by the pass.
+    fn check_load(
         &self,
-        units: usize,
-        costs: usize,
+        units: &[UnitRow],
+        costs: &[CostRow],
         marks: &[u32],
         pass: &Pass,
-    ) -> Option<Refusal>
-        ensures { (unit_table : List UnitRow) (cost_table : List CostRow) → length unit_table ≡ units → length cost_table ≡ costs → result ≡ load_refusal (opened (numbers_of self.now) unit_table cost_table marks.now) (pass_of pass.now) }
+    ) -> Result<(), Refusal>
+        ensures { result ≡ answer (load_refusal (opened (numbers_of self.now) units.now costs.now marks.now) (pass_of pass.now)) tt }
     {
-        if self.outnumber(units, costs) || marks.len() != CONTRIBUTORS {
-            return Some(Refusal::TableUnfit);
+        if self.outnumber(units.len(), costs.len()) {
+            return Err(Refusal::TableUnfit);
         }
-        if !self.accepts(marks, pass) {
-            return Some(Refusal::PassNotValid);
-        }
-        None
+        self.check_pass(marks, pass)
     }
 }
 
@@ -105,19 +113,14 @@ impl OpenBook {
         ensures { Took (call_for (pass_of pass.now) (item_of «record».entry)) (opened (open_book self.old) units.old costs.old marks.now) result (opened (open_book self.new) units.new costs.new marks.now) }
     {
         match record {
-            Record::Unit(row) => match self.post(units, marks, pass, row) {
-                Ok(_) => Ok(1),
-                Err(refusal) => Err(refusal),
-            },
-            Record::Cost(row) => match self.add_cost(costs, marks, pass, row) {
-                Ok(_) => Ok(1),
-                Err(refusal) => Err(refusal),
-            },
+            Record::Unit(row) => self.post(units, marks, pass, row).map(|_| 1),
+            Record::Cost(row) => self.add_cost(costs, marks, pass, row).map(|_| 1),
             _ => Ok(0),
         }
     }
 
-    // Posts the rows of a file from the reader's place on, up to the first refusal.
+    // Posts the rows of a file from the reader's place on, up to the first refusal. The report has
+    // the rows and the place so far.
     fn load_rows(
         &mut self,
         units: &mut [UnitRow],
@@ -125,28 +128,47 @@ impl OpenBook {
         marks: &[u32],
         pass: &Pass,
         mut reader: Reader,
-        bytes: &[u8],
-    ) -> LoadReport
-        requires read { reader.bytes.now ≡ bytes.now }
+        report: &mut LoadReport,
+    ) -> Result<(), RefusedLoad>
+        requires none { report.old.rows ≡ 0 }
         requires behind { 1 < reader.place }
-        requires inside { reader.place ≤ length bytes.now }
-        ensures { Done (opened (open_book self.old) units.old costs.old marks.now) (load_from (length bytes.now) bytes.now (pass_of pass.now) (opened (open_book self.old) units.old costs.old marks.now) reader.entry.place 0) (opened (open_book self.new) units.new costs.new marks.now) result }
+        requires inside { reader.place ≤ length reader.bytes.now }
+        ensures { Done (opened (open_book self.old) units.old costs.old marks.now) (load_from (length reader.entry.bytes.now) reader.entry.bytes.now (pass_of pass.now) (opened (open_book self.old) units.old costs.old marks.now) reader.entry.place 0) (opened (open_book self.new) units.new costs.new marks.now) (ended report.new.rows report.new.place result) }
     {
-        let mut rows = 0;
         loop {
-            let place = reader.place();
-            let found = match reader.next_in_order() {
-                Ok(found) => found,
-                Err(refusal) => return report(rows, Some(refusal), place, RefusedBy::File),
-            };
+            report.place = reader.place();
+            let found = reader.next_in_order().map_err(RefusedLoad::by_file)?;
             let Some(record) = found else {
-                return report(rows, None, bytes.len(), RefusedBy::Nobody);
+                return Ok(());
             };
-            match self.load_record(units, costs, marks, pass, record) {
-                Ok(posted) => rows += posted,
-                Err(refusal) => return report(rows, Some(refusal), place, RefusedBy::Book),
-            }
+            let taken = self.load_record(units, costs, marks, pass, record);
+            report.rows += taken.map_err(RefusedLoad::by_book)?;
         }
+    }
+
+    // Loads a file behind a report in which nothing has been done.
+    fn load_file(
+        &mut self,
+        units: &mut [UnitRow],
+        costs: &mut [CostRow],
+        marks: &[u32],
+        pass: &Pass,
+        bytes: &[u8],
+        report: &mut LoadReport,
+    ) -> Result<(), RefusedLoad>
+        requires { report.old ≡ reported 0 0 None }
+        ensures { Done (opened (open_book self.old) units.old costs.old marks.now) (load_of (opened (open_book self.old) units.old costs.old marks.now) (pass_of pass.now) bytes.now) (opened (open_book self.new) units.new costs.new marks.now) (ended report.new.rows report.new.place result) }
+    {
+        let checked = self.numbers.check_load(units, costs, marks, pass);
+        checked.map_err(RefusedLoad::by_book)?;
+        let mut reader = Reader::new(bytes).map_err(RefusedLoad::by_file)?;
+        report.place = reader.place();
+        let first = reader.next().map_err(RefusedLoad::by_file)?;
+        let sizes = header_of(first).map_err(RefusedLoad::by_file)?;
+        if sizes != self.numbers.sizes.sizes() {
+            return Err(RefusedLoad::by_book(Refusal::FieldOutOfRange));
+        }
+        self.load_rows(units, costs, marks, pass, reader, report)
     }
 
     // Loads a file: its rows are posted up to the first refusal, and what was posted stays.
@@ -160,27 +182,13 @@ impl OpenBook {
     ) -> LoadReport
         ensures { Done (opened (open_book self.old) units.old costs.old marks.now) (load_of (opened (open_book self.old) units.old costs.old marks.now) (pass_of pass.now) bytes.now) (opened (open_book self.new) units.new costs.new marks.now) result }
     {
-        if let Some(refusal) = self
-            .numbers
-            .load_refusal(units.len(), costs.len(), marks, pass)
-        {
-            return report(0, Some(refusal), 0, RefusedBy::Book);
-        }
-        let mut reader = match Reader::new(bytes) {
-            Ok(reader) => reader,
-            Err(refusal) => return report(0, Some(refusal), 0, RefusedBy::File),
+        let mut report = LoadReport {
+            rows: 0,
+            place: 0,
+            refused: None,
         };
-        let first = match reader.next() {
-            Ok(first) => first,
-            Err(refusal) => return report(0, Some(refusal), 1, RefusedBy::File),
-        };
-        let sizes = match header_of(first) {
-            Ok(sizes) => sizes,
-            Err(refusal) => return report(0, Some(refusal), 1, RefusedBy::File),
-        };
-        if !same_sizes(sizes, self.numbers.sizes.sizes()) {
-            return report(0, Some(Refusal::FieldOutOfRange), 1, RefusedBy::Book);
-        }
-        self.load_rows(units, costs, marks, pass, reader, bytes)
+        let loaded = self.load_file(units, costs, marks, pass, bytes, &mut report);
+        report.refused = loaded.err();
+        report
     }
 }

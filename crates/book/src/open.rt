@@ -10,10 +10,9 @@ ghost use Rattle.book_rules.specs.Run.{step, opened, closed, freeze, reopen, reo
 ghost use Rattle.book.specs.Shown.{open_book, frozen_book};
 ghost use Rattle.book.specs.Told.{frozen, told_book};
 
-use crate::marks::{any_outstanding, clear};
+use crate::marks::{check_marks, check_none_outstanding};
 use crate::states::{FrozenBook, Numbers, OpenBook};
 use lines::BookSizes;
-use tariff::limits::CONTRIBUTORS;
 use tariff::{Refusal, Sizes};
 
 impl OpenBook {
@@ -25,10 +24,8 @@ impl OpenBook {
         ensures life { IfOk result (λ b. (units : List UnitRow) (costs : List CostRow) → LawsOfALife (opened (open_book b) units costs marks.new)) }
     {
         let sizes = BookSizes::check(sizes)?;
-        if marks.len() != CONTRIBUTORS {
-            return Err(Refusal::TableUnfit);
-        }
-        clear(marks);
+        check_marks(marks)?;
+        marks.fill(0);
         Ok(OpenBook {
             numbers: Numbers {
                 sizes,
@@ -44,14 +41,13 @@ impl OpenBook {
     pub fn freeze(self, marks: &[u32]) -> Result<FrozenBook, (OpenBook, Refusal)>
         ensures { (units : List UnitRow) (costs : List CostRow) → step (opened (open_book self) units costs marks.now) freeze ≡ frozen units costs marks.now result }
     {
-        if marks.len() != CONTRIBUTORS {
-            return Err((self, Refusal::TableUnfit));
+        match check_none_outstanding(marks) {
+            Ok(()) => {
+                let OpenBook { numbers } = self;
+                Ok(FrozenBook { numbers })
+            }
+            Err(refusal) => Err((self, refusal)),
         }
-        if any_outstanding(marks) {
-            return Err((self, Refusal::PassOutstanding));
-        }
-        let OpenBook { numbers } = self;
-        Ok(FrozenBook { numbers })
     }
 }
 

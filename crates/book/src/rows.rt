@@ -1,16 +1,22 @@
 // Rows come in through a valid pass: post, add cost, correct.
-ghost use Rattle.std.specs.Prelude.{◌≡◌, ℕ, ◌<◌, ◌||◌, List, length, MatchOption, nat_lt};
+ghost use Rattle.std.specs.Prelude.{◌≡◌, ℕ, ◌+◌, ◌<◌, Bool, not, ◌||◌, List, length, nat_lt, IfOk};
+ghost use Rattle.tariff.specs.declared.rows.Sizes.{Sizes};
 ghost use Rattle.tariff.specs.declared.rows.UnitRow.{UnitRow};
 ghost use Rattle.tariff.specs.declared.rows.CostRow.{CostRow};
-ghost use Rattle.lines.specs.Totals.{all_quantities};
-ghost use Rattle.book_rules.specs.Machine.{post_refusal, cost_refusal, corrected, correct_refusal};
+ghost use Rattle.tariff.specs.Refusals.{answer};
+ghost use Rattle.lines.specs.Checked.{sizes_of};
+ghost use Rattle.lines.specs.Rows.{unlawful_unit, unlawful_cost};
+ghost use Rattle.lines.specs.Totals.{all_quantities, alike};
+ghost use Rattle.book_rules.specs.Machine.{Book, corrected};
 ghost use Rattle.book_rules.specs.Run.{step, opened, post, add_cost, correct};
 ghost use Rattle.book.specs.Shown.{open_book, numbers_of, pass_of};
+ghost use Rattle.book.specs.Tests.{entry_refusal};
 ghost use Rattle.book.specs.Told.{told, told_row};
 
 use crate::states::{Numbers, OpenBook, Pass};
+use lines::BookSizes;
 use lines::totals::{alike_costs, all_quantities};
-use tariff::limits::{CONTRIBUTORS, MOST_AMOUNT};
+use tariff::limits::MOST_AMOUNT;
 use tariff::{CostRow, Refusal, UnitRow};
 
 // The quantities of all rows, one of them counted by its new quantity.
@@ -21,6 +27,65 @@ fn corrected_total(rows: &[UnitRow], at: usize, quantity: u32) -> u128
     all_quantities(rows) - u128::from(rows[at].quantity) + u128::from(quantity)
 }
 
+// A row that a book takes in: how many rows of its kind the book counts, and what it refuses.
+trait Entry {
+    ghost count_in: { Book → ℕ };
+
+    ghost is_unlawful: { Sizes → Self → Bool };
+
+    // the sum that is limited: this row's, and that of the rows that share its limit
+    ghost limited: { Self → List Self → ℕ };
+
+    fn counted(numbers: &Numbers) -> usize
+        ensures { result ≡ count_in (numbers_of numbers.now) };
+
+    fn is_allowed(&self, sizes: &BookSizes) -> bool
+        ensures { result ≡ not (is_unlawful (sizes_of sizes.now) self.now) };
+
+    fn sum_with(&self, rows: &[Self]) -> u128
+        ensures { result ≡ limited self.now rows.now };
+}
+
+impl Entry for UnitRow {
+    ghost count_in = { λ b. b.units };
+
+    ghost is_unlawful = { unlawful_unit };
+
+    ghost limited = { λ u rows. all_quantities rows + u.quantity };
+
+    fn counted(numbers: &Numbers) -> usize {
+        numbers.units
+    }
+
+    fn is_allowed(&self, sizes: &BookSizes) -> bool {
+        sizes.allows_unit(self)
+    }
+
+    fn sum_with(&self, rows: &[UnitRow]) -> u128 {
+        all_quantities(rows) + u128::from(self.quantity)
+    }
+}
+
+impl Entry for CostRow {
+    ghost count_in = { λ b. b.costs };
+
+    ghost is_unlawful = { unlawful_cost };
+
+    ghost limited = { λ r rows. alike r rows + r.amount };
+
+    fn counted(numbers: &Numbers) -> usize {
+        numbers.costs
+    }
+
+    fn is_allowed(&self, sizes: &BookSizes) -> bool {
+        sizes.allows_cost(self)
+    }
+
+    fn sum_with(&self, rows: &[CostRow]) -> u128 {
+        alike_costs(self, rows) + u128::from(self.amount)
+    }
+}
+
 impl Numbers {
     // Whether the book counts more rows than a table has.
     pub(crate) fn outnumber(&self, units: usize, costs: usize) -> bool
@@ -29,95 +94,36 @@ impl Numbers {
         units < self.units || costs < self.costs
     }
 
-    fn post_refusal(
+    // The place of a new row in its table, if the book takes it in.
+    fn place_for<R: Entry>(
         &self,
-        units: &[UnitRow],
+        rows: &[R],
         marks: &[u32],
         pass: &Pass,
-        row: UnitRow,
-    ) -> Option<Refusal>
-        ensures first { result ≡ post_refusal (numbers_of self.now) units.now marks.now (pass_of pass.now) row }
-        ensures room { MatchOption result (self.now.units < length units.now) (λ _. ⊥ → ⊥) }
+        row: &R,
+    ) -> Result<usize, Refusal>
+        ensures place { result ≡ answer (entry_refusal R.count_in R.is_unlawful R.limited (numbers_of self.now) rows.now marks.now (pass_of pass.now) row.now) (R.count_in (numbers_of self.now)) }
+        ensures room { IfOk result (λ at. at < length rows.now) }
     {
-        let at = self.units;
-        if units.len() < at || marks.len() != CONTRIBUTORS {
-            return Some(Refusal::TableUnfit);
+        let count = R::counted(self);
+        if rows.len() < count {
+            return Err(Refusal::TableUnfit);
         }
-        if !self.accepts(marks, pass) {
-            return Some(Refusal::PassNotValid);
+        self.check_pass(marks, pass)?;
+        if !row.is_allowed(&self.sizes) {
+            return Err(Refusal::FieldOutOfRange);
         }
-        if !self.sizes.allows_unit(&row) {
-            return Some(Refusal::FieldOutOfRange);
+        if rows.len() <= count {
+            return Err(Refusal::TableFull);
         }
-        if units.len() <= at {
-            return Some(Refusal::TableFull);
+        if row.sum_with(&rows[0..count]) > u128::from(MOST_AMOUNT) {
+            return Err(Refusal::SumTooLarge);
         }
-        if all_quantities(&units[0..at]) + u128::from(row.quantity) > u128::from(MOST_AMOUNT) {
-            return Some(Refusal::SumTooLarge);
-        }
-        None
-    }
-
-    fn cost_refusal(
-        &self,
-        costs: &[CostRow],
-        marks: &[u32],
-        pass: &Pass,
-        row: CostRow,
-    ) -> Option<Refusal>
-        ensures first { result ≡ cost_refusal (numbers_of self.now) costs.now marks.now (pass_of pass.now) row }
-        ensures room { MatchOption result (self.now.costs < length costs.now) (λ _. ⊥ → ⊥) }
-    {
-        let at = self.costs;
-        if costs.len() < at || marks.len() != CONTRIBUTORS {
-            return Some(Refusal::TableUnfit);
-        }
-        if !self.accepts(marks, pass) {
-            return Some(Refusal::PassNotValid);
-        }
-        if !self.sizes.allows_cost(&row) {
-            return Some(Refusal::FieldOutOfRange);
-        }
-        if costs.len() <= at {
-            return Some(Refusal::TableFull);
-        }
-        if alike_costs(&row, &costs[0..at]) + u128::from(row.amount) > u128::from(MOST_AMOUNT) {
-            return Some(Refusal::SumTooLarge);
-        }
-        None
-    }
-
-    fn correct_refusal(
-        &self,
-        units: &[UnitRow],
-        marks: &[u32],
-        pass: &Pass,
-        at: usize,
-        quantity: u32,
-    ) -> Option<Refusal>
-        ensures first { result ≡ correct_refusal (numbers_of self.now) units.now marks.now (pass_of pass.now) at quantity }
-        ensures counted { MatchOption result (at < length units.now) (λ _. ⊥ → ⊥) }
-    {
-        let count = self.units;
-        if units.len() < count || marks.len() != CONTRIBUTORS {
-            return Some(Refusal::TableUnfit);
-        }
-        if !self.accepts(marks, pass) {
-            return Some(Refusal::PassNotValid);
-        }
-        if quantity > MOST_AMOUNT {
-            return Some(Refusal::FieldOutOfRange);
-        }
-        if at >= count {
-            return Some(Refusal::NoSuchRow);
-        }
-        if corrected_total(&units[0..count], at, quantity) > u128::from(MOST_AMOUNT) {
-            return Some(Refusal::SumTooLarge);
-        }
-        None
+        Ok(count)
     }
 }
 
+// Tables are parameters: a struct of lent `&mut` slices shows them at exit only as nested pairs.
 impl OpenBook {
     // Appends a unit row, and answers its number, from 0.
     pub fn post(
@@ -129,10 +135,7 @@ impl OpenBook {
     ) -> Result<usize, Refusal>
         ensures { (costs : List CostRow) → step (opened (open_book self.old) units.old costs marks.now) (post (pass_of pass.now) row) ≡ record { state = opened (open_book self.new) units.new costs marks.now; answer = told_row result } }
     {
-        if let Some(refusal) = self.numbers.post_refusal(units, marks, pass, row) {
-            return Err(refusal);
-        }
-        let at = self.numbers.units;
+        let at = self.numbers.place_for(units, marks, pass, &row)?;
         units[at] = row;
         self.numbers.units = at + 1;
         Ok(at)
@@ -148,10 +151,7 @@ impl OpenBook {
     ) -> Result<usize, Refusal>
         ensures { (units : List UnitRow) → step (opened (open_book self.old) units costs.old marks.now) (add_cost (pass_of pass.now) row) ≡ record { state = opened (open_book self.new) units costs.new marks.now; answer = told_row result } }
     {
-        if let Some(refusal) = self.numbers.cost_refusal(costs, marks, pass, row) {
-            return Err(refusal);
-        }
-        let at = self.numbers.costs;
+        let at = self.numbers.place_for(costs, marks, pass, &row)?;
         costs[at] = row;
         self.numbers.costs = at + 1;
         Ok(at)
@@ -168,11 +168,19 @@ impl OpenBook {
     ) -> Result<(), Refusal>
         ensures { (costs : List CostRow) → step (opened (open_book self.now) units.old costs marks.now) (correct (pass_of pass.now) at quantity) ≡ record { state = opened (open_book self.now) units.new costs marks.now; answer = told result } }
     {
-        if let Some(refusal) = self
-            .numbers
-            .correct_refusal(units, marks, pass, at, quantity)
-        {
-            return Err(refusal);
+        let count = self.numbers.units;
+        if units.len() < count {
+            return Err(Refusal::TableUnfit);
+        }
+        self.numbers.check_pass(marks, pass)?;
+        if quantity > MOST_AMOUNT {
+            return Err(Refusal::FieldOutOfRange);
+        }
+        if at >= count {
+            return Err(Refusal::NoSuchRow);
+        }
+        if corrected_total(&units[0..count], at, quantity) > u128::from(MOST_AMOUNT) {
+            return Err(Refusal::SumTooLarge);
         }
         units[at].quantity = quantity;
         Ok(())

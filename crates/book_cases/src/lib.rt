@@ -4,7 +4,6 @@
 
 #[cfg(test)]
 mod tests {
-    use bill_rules::Remainders;
     use book::load::RefusedBy;
     use book::{OpenBook, Pass};
     use sharing::Running;
@@ -37,6 +36,14 @@ mod tests {
         amount: 1000,
     };
 
+    fn sizes(customers: u16, days: u8, subzones: u8) -> Sizes {
+        Sizes {
+            customers,
+            days,
+            subzones,
+        }
+    }
+
     fn of(hour: u8, quantity: u32) -> UnitRow {
         UnitRow {
             customer: 0,
@@ -61,65 +68,17 @@ mod tests {
     #[test]
     fn sizes_and_marks(rt: HostRuntime) -> Result<(), Fail> {
         let mut marks = [9; 64];
-        assert!(rt;
-            OpenBook::open(
-                Sizes {
-                    customers: 257,
-                    days: 1,
-                    subzones: 1,
-                },
-                1,
-                &mut marks,
-            )
-            .is_err()
-        );
-        assert!(rt;
-            OpenBook::open(
-                Sizes {
-                    customers: 0,
-                    days: 1,
-                    subzones: 1,
-                },
-                1,
-                &mut marks,
-            )
-            .is_err()
-        );
-        assert!(rt;
-            OpenBook::open(
-                Sizes {
-                    customers: 1,
-                    days: 32,
-                    subzones: 1,
-                },
-                1,
-                &mut marks,
-            )
-            .is_err()
-        );
-        assert!(rt;
-            OpenBook::open(
-                Sizes {
-                    customers: 1,
-                    days: 1,
-                    subzones: 33,
-                },
-                1,
-                &mut marks,
-            )
-            .is_err()
-        );
+        for unfit in [
+            sizes(257, 1, 1),
+            sizes(0, 1, 1),
+            sizes(1, 32, 1),
+            sizes(1, 1, 33),
+        ] {
+            assert!(rt; OpenBook::open(unfit, 1, &mut marks).is_err());
+        }
         assert!(rt; OpenBook::open(SIZES, 1, &mut marks[0..63]).is_err());
         assert_eq!(rt; marks[0], 9);
-        let _book = OpenBook::open(
-            Sizes {
-                customers: 256,
-                days: 31,
-                subzones: 32,
-            },
-            1,
-            &mut marks,
-        )?;
+        let _book = OpenBook::open(sizes(256, 31, 32), 1, &mut marks)?;
         assert_eq!(rt; marks, [0; 64]);
         Ok(())
     }
@@ -145,10 +104,9 @@ mod tests {
     fn contributors_63_and_64(rt: HostRuntime) -> Result<(), Fail> {
         let mut marks = [0; 64];
         let mut book = OpenBook::open(SIZES, 7, &mut marks)?;
-        let refused = match book.admit(&mut marks, 64) {
-            Ok(pass) => book.hand_in(&mut marks, pass),
-            Err(refusal) => Err(refusal),
-        };
+        let refused = book
+            .admit(&mut marks, 64)
+            .and_then(|pass| book.hand_in(&mut marks, pass));
         let pass = book.admit(&mut marks, 63)?;
         let number = pass.number();
         let removed = book.remove(&mut marks, 64);
@@ -178,10 +136,9 @@ mod tests {
         let pass = book.admit(&mut marks, 0)?;
         let number = pass.number();
         let handed = book.hand_in(&mut marks, pass);
-        let refused = match book.admit(&mut marks, 0) {
-            Ok(pass) => book.hand_in(&mut marks, pass),
-            Err(refusal) => Err(refusal),
-        };
+        let refused = book
+            .admit(&mut marks, 0)
+            .and_then(|pass| book.hand_in(&mut marks, pass));
         assert_eq!(rt; number, LAST_PASS_NUMBER);
         assert_eq!(rt; handed, Ok(()));
         assert_eq!(rt; refused, Err(Refusal::PassNumbersUsedUp));
@@ -256,13 +213,6 @@ mod tests {
         Ok(())
     }
 
-    fn refusal_in(answer: Result<Remainders, Refusal>) -> Option<Refusal> {
-        match answer {
-            Ok(_) => None,
-            Err(refusal) => Some(refusal),
-        }
-    }
-
     // A bill needs the rows that the book counts, and a place of each column for each customer.
     #[test]
     fn bills_of_short_tables_and_wrong_columns(rt: HostRuntime) -> Result<(), Fail> {
@@ -277,12 +227,9 @@ mod tests {
         assert_eq!(rt; posted, Ok(0));
         assert_eq!(rt; added, Ok(0));
         assert_eq!(rt; handed, Ok(()));
-        let frozen = match book.freeze(&marks) {
-            Ok(frozen) => frozen,
-            Err(_) => {
-                assert!(rt; false);
-                return Ok(())
-            },
+        let Ok(frozen) = book.freeze(&marks) else {
+            assert!(rt; false);
+            return Ok(());
         };
         let mut a = [7; 3];
         let mut b = [7; 3];
@@ -290,15 +237,15 @@ mod tests {
         let mut wide = [7; 4];
         let rule = &mut Running;
         let no_units = frozen.bill(rule, &units[0..0], &costs, 3, &mut a, &mut b, &mut c);
-        assert_eq!(rt; refusal_in(no_units), Some(Refusal::TableUnfit));
+        assert_eq!(rt; no_units.err(), Some(Refusal::TableUnfit));
         let no_costs = frozen.bill(rule, &units, &costs[0..0], 3, &mut a, &mut b, &mut c);
-        assert_eq!(rt; refusal_in(no_costs), Some(Refusal::TableUnfit));
+        assert_eq!(rt; no_costs.err(), Some(Refusal::TableUnfit));
         let too_wide = frozen.bill(rule, &units, &costs, 3, &mut a, &mut wide, &mut c);
-        assert_eq!(rt; refusal_in(too_wide), Some(Refusal::TableUnfit));
+        assert_eq!(rt; too_wide.err(), Some(Refusal::TableUnfit));
         assert_eq!(rt; a[0], 7);
         assert_eq!(rt; wide[3], 7);
         let fitting = frozen.bill(rule, &units[0..1], &costs[0..1], 3, &mut a, &mut b, &mut c);
-        assert_eq!(rt; refusal_in(fitting), None);
+        assert_eq!(rt; fitting.err(), None);
         assert_eq!(rt; a[0], 1000);
         Ok(())
     }
@@ -375,9 +322,14 @@ mod tests {
         marks: &[u32],
         pass: &Pass,
         bytes: &[u8],
-    ) -> (usize, u8, usize, RefusedBy) {
+    ) -> (usize, u8, usize, Option<RefusedBy>) {
         let report = book.load(units, costs, marks, pass, bytes);
-        (report.rows, report.number(), report.place, report.by)
+        (
+            report.rows,
+            report.number(),
+            report.place,
+            report.refused.map(|refused| refused.by),
+        )
     }
 
     #[test]
@@ -424,13 +376,13 @@ mod tests {
         );
         let quantity = units[0].quantity;
         let handed = book.hand_in(&mut marks, pass);
-        assert_eq!(rt; half, (1, 8, 25, RefusedBy::Book));
-        assert_eq!(rt; cut, (1, 17, 21, RefusedBy::File));
-        assert_eq!(rt; whole, (1, 0, 25, RefusedBy::Nobody));
-        assert_eq!(rt; empty, (0, 16, 0, RefusedBy::File));
-        assert_eq!(rt; version, (0, 18, 1, RefusedBy::File));
-        assert_eq!(rt; other_sizes, (0, 8, 1, RefusedBy::Book));
-        assert_eq!(rt; short, (0, 2, 0, RefusedBy::Book));
+        assert_eq!(rt; half, (1, 8, 25, Some(RefusedBy::Book)));
+        assert_eq!(rt; cut, (1, 17, 21, Some(RefusedBy::File)));
+        assert_eq!(rt; whole, (1, 0, 25, None));
+        assert_eq!(rt; empty, (0, 16, 0, Some(RefusedBy::File)));
+        assert_eq!(rt; version, (0, 18, 1, Some(RefusedBy::File)));
+        assert_eq!(rt; other_sizes, (0, 8, 1, Some(RefusedBy::Book)));
+        assert_eq!(rt; short, (0, 2, 0, Some(RefusedBy::Book)));
         assert_eq!(rt; quantity, 600);
         assert_eq!(rt; handed, Ok(()));
         Ok(())

@@ -12,7 +12,8 @@ ghost use Rattle.book.specs.Shown.{open_book, pass_of};
 
 use book::{FrozenBook, OpenBook, Pass};
 use said::Said;
-use sharing::{Down, Running};
+use settling::{NO_COST, NO_UNITS};
+use sharing::{Down, Running, SharingRule};
 use tariff::{CostRow, Refusal, Sizes, UnitRow};
 
 const ANALYST: usize = 1;
@@ -25,15 +26,6 @@ const SIZES: Sizes = Sizes {
     subzones: 1,
 };
 
-const NO_UNITS: UnitRow = UnitRow {
-    customer: 0,
-    day: 0,
-    hour: 0,
-    subzone: 0,
-    usage: 0,
-    quantity: 0,
-};
-
 const COST: CostRow = CostRow {
     line: 3,
     subzone: 1,
@@ -42,21 +34,28 @@ const COST: CostRow = CostRow {
     amount: 1000,
 };
 
+// A call in words, and what it answered.
+#[derive(Clone, Copy)]
+pub struct Note {
+    call: &'static str,
+    answer: Said,
+}
+
 // What each call answered so far.
 #[derive(Drop)]
 pub struct Log {
-    calls: [&'static str; 32],
-    answers: [Said; 32],
-    count: usize,
+    notes: Vec<Note>,
 }
 
+// At least as many as the story has calls. Their room is made before the first, so that no note
+// can fail while a pass is out.
+const MOST_NOTES: usize = 32;
+
 impl Log {
-    fn note(&mut self, call: &'static str, answer: Said) {
-        let at = self.count;
-        if at < 32 {
-            self.calls[at] = call;
-            self.answers[at] = answer;
-            self.count = at + 1;
+    fn note(&mut self, call: &'static str, answer: impl Into<Said>) {
+        let answer = answer.into();
+        if self.notes.len() < self.notes.capacity() {
+            self.notes.push(Note { call, answer }).unwrap();
         }
     }
 }
@@ -96,23 +95,23 @@ fn post_all(
 ) {
     log.note(
         "analyst posts load of customer 0",
-        Said::row(book.post(units, marks, analyst, load_row(0, 0, 600))),
+        book.post(units, marks, analyst, load_row(0, 0, 600)),
     );
     log.note(
         "contractor posts load of customer 1",
-        Said::row(book.post(units, marks, contractor, load_row(1, 0, 30))),
+        book.post(units, marks, contractor, load_row(1, 0, 30)),
     );
     log.note(
         "analyst corrects row 1",
-        Said::done(book.correct(units, marks, analyst, 1, 300)),
+        book.correct(units, marks, analyst, 1, 300),
     );
     log.note(
         "analyst posts station power of customer 2",
-        Said::row(book.post(units, marks, analyst, load_row(2, 4, 90))),
+        book.post(units, marks, analyst, load_row(2, 4, 90)),
     );
     log.note(
         "analyst adds a cost of line 3",
-        Said::row(book.add_cost(costs, marks, analyst, COST)),
+        book.add_cost(costs, marks, analyst, COST),
     );
 }
 
@@ -129,21 +128,28 @@ pub fn try_cached_pass(
     ensures { valid (open_book book.old) marks.now (pass_of contractor.now) ≡ false → opened (open_book book.new) units.new costs.new marks.now ≡ opened (open_book book.old) units.old costs.old marks.now }
 {
     let first = book.correct(units, marks, contractor, 0, 1);
-    log.note("day 1: the cached pass corrects row 0", Said::done(first));
+    log.note("day 1: the cached pass corrects row 0", first);
     let second = book.correct(units, marks, contractor, 1, 1);
-    log.note("day 2: the cached pass corrects row 1", Said::done(second));
+    log.note("day 2: the cached pass corrects row 1", second);
     let third = book.post(units, marks, contractor, load_row(0, 0, 5));
-    log.note("day 3: the cached pass posts a row", Said::row(third));
+    log.note("day 3: the cached pass posts a row", third);
     let fourth = book.add_cost(costs, marks, contractor, COST);
-    log.note("day 4: the cached pass adds a cost", Said::row(fourth));
+    log.note("day 4: the cached pass adds a cost", fourth);
 }
 
-fn bill(book: &FrozenBook, units: &[UnitRow], costs: &[CostRow], log: &mut Log) {
+fn bill_by<R: SharingRule>(
+    book: &FrozenBook,
+    rule: &mut R,
+    units: &[UnitRow],
+    costs: &[CostRow],
+    call: &'static str,
+    log: &mut Log,
+) {
     let mut charges = [0; 3];
     let mut stations = [0; 3];
     let mut credits = [0; 3];
-    let by_down = book.bill(
-        &mut Down,
+    let answer = book.bill(
+        rule,
         units,
         costs,
         3,
@@ -151,22 +157,18 @@ fn bill(book: &FrozenBook, units: &[UnitRow], costs: &[CostRow], log: &mut Log) 
         &mut stations,
         &mut credits,
     );
-    log.note(
-        "bill line 3 by Down",
-        Said::bill(by_down, charges, stations, credits),
-    );
-    let by_running = book.bill(
+    log.note(call, Said::bill(answer, charges, stations, credits));
+}
+
+fn bill(book: &FrozenBook, units: &[UnitRow], costs: &[CostRow], log: &mut Log) {
+    bill_by(book, &mut Down, units, costs, "bill line 3 by Down", log);
+    bill_by(
+        book,
         &mut Running,
         units,
         costs,
-        3,
-        &mut charges,
-        &mut stations,
-        &mut credits,
-    );
-    log.note(
         "bill line 3 by Running",
-        Said::bill(by_running, charges, stations, credits),
+        log,
     );
 }
 
@@ -177,9 +179,8 @@ fn freeze(book: OpenBook, marks: &[u32], log: &mut Log) -> Result<FrozenBook, Op
             log.note("freeze", Said::Done);
             Ok(frozen)
         }
-        Err(back) => {
-            let (open, refusal) = back;
-            log.note("freeze", Said::Refused(refusal.number()));
+        Err((open, refusal)) => {
+            log.note("freeze", Said::Refused(refusal));
             Err(open)
         }
     }
@@ -202,9 +203,9 @@ fn admit_again(
     )?;
     log.note(
         "contractor posts a wheel of customer 0",
-        Said::row(book.post(units, marks, &pass, load_row(0, 1, 40))),
+        book.post(units, marks, &pass, load_row(0, 1, 40)),
     );
-    log.note("contractor hands in", Said::done(book.hand_in(marks, pass)));
+    log.note("contractor hands in", book.hand_in(marks, pass));
     if let Ok(again) = freeze(book, marks, log) {
         bill(&again, units, costs, log);
     }
@@ -223,19 +224,13 @@ fn settle(
     match freeze(book, marks, log) {
         Ok(frozen) => {
             bill(&frozen, units, costs, log);
-            log.note(
-                "take in the cached pass",
-                Said::done(frozen.take_in(marks, contractor)),
-            );
+            log.note("take in the cached pass", frozen.take_in(marks, contractor));
             let open = frozen.reopen();
             log.note("reopen", Said::Done);
             admit_again(open, units, costs, marks, log)
         }
         Err(open) => {
-            log.note(
-                "contractor hands in",
-                Said::done(open.hand_in(marks, contractor)),
-            );
+            log.note("contractor hands in", open.hand_in(marks, contractor));
             Ok(())
         }
     }
@@ -243,7 +238,7 @@ fn settle(
 
 fn play(log: &mut Log) -> Result<(), Refusal> {
     let mut units = [NO_UNITS; 8];
-    let mut costs = [COST; 4];
+    let mut costs = [NO_COST; 4];
     let mut marks = [0; 64];
     let mut book = OpenBook::open(SIZES, 7, &mut marks)?;
     log.note("open", Said::Done);
@@ -257,10 +252,7 @@ fn play(log: &mut Log) -> Result<(), Refusal> {
     ) {
         Ok(pass) => pass,
         Err(refusal) => {
-            log.note(
-                "analyst hands in",
-                Said::done(book.hand_in(&mut marks, analyst)),
-            );
+            log.note("analyst hands in", book.hand_in(&mut marks, analyst));
             return Err(refusal);
         }
     };
@@ -273,34 +265,24 @@ fn play(log: &mut Log) -> Result<(), Refusal> {
         &contractor,
         log,
     );
-    log.note(
-        "remove the contractor",
-        Said::done(book.remove(&mut marks, CONTRACTOR)),
-    );
+    log.note("remove the contractor", book.remove(&mut marks, CONTRACTOR));
     try_cached_pass(&mut book, &mut units, &mut costs, &marks, &contractor, log);
     let book = match freeze(book, &marks, log) {
         Ok(frozen) => frozen.reopen(),
         Err(open) => open,
     };
-    log.note(
-        "analyst hands in",
-        Said::done(book.hand_in(&mut marks, analyst)),
-    );
+    log.note("analyst hands in", book.hand_in(&mut marks, analyst));
     settle(book, &mut units, &costs, &mut marks, contractor, log)
 }
 
 fn main(rt: HostRuntime) -> anyhow::Result<()> {
     let mut log = Log {
-        calls: [""; 32],
-        answers: [Said::Done; 32],
-        count: 0,
+        notes: Vec::with_capacity(rt.alloc(), MOST_NOTES)?,
     };
     if let Err(refusal) = play(&mut log) {
-        log.note("stopped", Said::Refused(refusal.number()));
+        log.note("stopped", Said::Refused(refusal));
     }
-    for at in 0..log.count.min(32) {
-        let call = log.calls[at];
-        let answer = log.answers[at];
+    for Note { call, answer } in &log.notes {
         println!(rt; "{call}: {answer}")?;
     }
     Ok(())

@@ -15,35 +15,40 @@ pub struct Billed {
     pub left: Remainders,
 }
 
-// The number of a pass or of a row, done, the figures of a bill, or the number of a refusal.
+// The number of a pass or of a row, done, the figures of a bill, or a refusal.
 #[derive(Clone, Copy)]
 pub enum Said {
     Done,
     Pass(u32),
     Row(usize),
     Bill(Billed),
-    Refused(u8),
+    Refused(Refusal),
+}
+
+impl From<Result<usize, Refusal>> for Said {
+    ghost from_gives = { λ answer said. said ≡ said_row answer };
+
+    fn from(answer: Result<usize, Refusal>) -> Said {
+        match answer {
+            Ok(row) => Said::Row(row),
+            Err(refusal) => Said::Refused(refusal),
+        }
+    }
+}
+
+impl From<Result<(), Refusal>> for Said {
+    ghost from_gives = { λ answer said. said ≡ said_done answer };
+
+    fn from(answer: Result<(), Refusal>) -> Said {
+        match answer {
+            Ok(()) => Said::Done,
+            Err(refusal) => Said::Refused(refusal),
+        }
+    }
 }
 
 impl Said {
-    pub fn row(answer: Result<usize, Refusal>) -> Said
-        ensures { result ≡ said_row answer }
-    {
-        match answer {
-            Ok(row) => Said::Row(row),
-            Err(refusal) => Said::Refused(refusal.number()),
-        }
-    }
-
-    pub fn done(answer: Result<(), Refusal>) -> Said
-        ensures { result ≡ said_done answer }
-    {
-        match answer {
-            Ok(()) => Said::Done,
-            Err(refusal) => Said::Refused(refusal.number()),
-        }
-    }
-
+    // A bill is no `From`, since its figures stand in the columns beside the answer.
     pub fn bill(
         answer: Result<Remainders, Refusal>,
         charges: [u64; 3],
@@ -59,7 +64,7 @@ impl Said {
                 credits,
                 left,
             }),
-            Err(refusal) => Said::Refused(refusal.number()),
+            Err(refusal) => Said::Refused(refusal),
         }
     }
 }
@@ -88,7 +93,10 @@ impl fmt::Display for Said {
             Said::Pass(number) => write!(f, "pass {number}"),
             Said::Row(number) => write!(f, "row {number}"),
             Said::Bill(billed) => write!(f, "{billed}"),
-            Said::Refused(number) => write!(f, "refused {number}"),
+            Said::Refused(refusal) => {
+                let number = refusal.number();
+                write!(f, "refused {number}")
+            }
         }
     }
 }

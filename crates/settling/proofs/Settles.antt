@@ -1,18 +1,22 @@
 -- From what the calls of a book say to the settled book. Assumes nothing.
 use Rattle.std.proofs.Common.{◌≡◌, ℕ, ◌+◌, List, set, replicate, Some, None, Ok, Err, Option, Result, sym, refl, ap, ◌∙◌, arith}
+use Rattle.std.specs.Result.{IsErrAnd, MatchResult}
 use Rattle.tariff.specs.declared.refusal.Refusal.{Refusal}
 use Rattle.tariff.specs.declared.rows.Sizes.{Sizes}
 use Rattle.tariff.specs.declared.rows.UnitRow.{UnitRow}
 use Rattle.tariff.specs.declared.rows.CostRow.{CostRow}
 use Rattle.tariff.specs.Limits.{contributors}
 use Rattle.tariff.specs.Refusals.{answer, unless}
-use Rattle.tariff.proofs.Refused.{ok_tells, err_tells}
+use Rattle.tariff.proofs.Refused.{ok_tells}
 use Rattle.book_rules.specs.Machine.{Book, Pass, new_pass, new_book, open_refusal, admit_refusal, with_last_pass}
-use Rattle.book_rules.specs.Run.{State, Answer, gave, froze, stayed_open, refused, Outcome, outcome, with_marks, admit, hand_in, freeze, step, opened, at_opening}
+use Rattle.book_rules.specs.Run.{State, Answer, gave, froze, stayed_open, refused, Outcome, outcome, with_marks, admit, hand_in, freeze, step, opened, closed, at_opening}
 use Rattle.book.specs.declared.load.LoadReport.{LoadReport}
-use Rattle.book.specs.Load.{refusal_in, load_of, Done}
-use Rattle.book.specs.Told.{told}
-use Rattle.settling.specs.Settling.{Reached, goes_on, reached_by, handed_in, loaded_with, loaded_in, frozen_after, Settlement, settled_at, opens_to, settlement, left}
+use Rattle.book.specs.Load.{report_refusal, refusal_in, load_of, Done}
+use Rattle.book.specs.Shown.{open_book, frozen_book}
+use Rattle.book.specs.Told.{told, frozen}
+use Rattle.book.specs.declared.states.FrozenBook.{FrozenBook}
+use Rattle.book.specs.declared.states.OpenBook.{OpenBook}
+use Rattle.settling.specs.Settling.{Reached, goes_on, reached_by, handed_in, loaded_with, loaded_in, frozen_after, settled_at, opens_to, settlement, left, leaves}
 
 gave_tells : (o : Option Refusal) (s new t : State) (q p : Pass) → outcome o s new (gave q) ≡ record { state = t; answer = gave p } → q ≡ p
 gave_tells None s new t q p h = let a : ◌≡◌ {A = Answer} (gave q) (gave p) = ap (λ (o : Outcome). o.answer) h in cc
@@ -48,13 +52,13 @@ ends_is None s p = refl
 ends_is (Some e) s p = refl
 
 module _ (t u v : State) (p : Pass) (bytes : List ℕ) (r : LoadReport) (x : Result (Unit {0}) Refusal) (done : Done t (load_of t p bytes) u r) (ended : step u (hand_in p) ≡ record { state = v; answer = told x }) where
-  reaches : (o : Option Refusal) → r.refusal ≡ o → ends o (step u (hand_in p)) ≡ loaded_with t p bytes
+  reaches : (o : Option Refusal) → report_refusal r ≡ o → ends o (step u (hand_in p)) ≡ loaded_with t p bytes
   reaches o h =
       ends_is o u p
-      ∙ ap (λ (k : Option Refusal). handed_in k u p) (sym h ∙ ap (λ (y : LoadReport). y.refusal) done.reports)
-      ∙ ap (λ (w : State). handed_in (load_of t p bytes).report.refusal w p) done.makes
+      ∙ ap (λ (k : Option Refusal). handed_in k u p) (sym h ∙ ap report_refusal done.reports)
+      ∙ ap (λ (w : State). handed_in (report_refusal (load_of t p bytes).report) w p) done.makes
 
-  pub load_refused : (e : Refusal) → r.refusal ≡ Some e → left (Err e) v ≡ loaded_with t p bytes
+  pub load_refused : (e : Refusal) → report_refusal r ≡ Some e → left (Err e) v ≡ loaded_with t p bytes
   unfolding ends
   load_refused e h = sym (ap (ends (Some e)) ended) ∙ reaches (Some e) h
 
@@ -63,7 +67,7 @@ module _ (t u v : State) (p : Pass) (bytes : List ℕ) (r : LoadReport) (x : Res
   hand_in_leads (Ok _) h = sym (ap (ends None) h)
   hand_in_leads (Err e) h = sym (ap (ends None) h)
 
-  pub load_done : r.refusal ≡ None → left x v ≡ loaded_with t p bytes
+  pub load_done : report_refusal r ≡ None → left x v ≡ loaded_with t p bytes
   load_done h = hand_in_leads x ended ∙ reaches None h
 
 -- an accepted opening
@@ -84,16 +88,23 @@ module _ (z : Sizes) (us : List UnitRow) (cs : List CostRow) (ms ms' bytes : Lis
   pub not_loaded : (s : State) (e : Refusal) → left (Err e) s ≡ loaded_in (opened b us cs ms') bytes → settled_at (left (Err e) s) ≡ settlement z us cs ms bytes
   not_loaded s e h = settles (left (Err e) s) h
 
-  pub frozen_after_is : (s t : State) (k : Book) → left (Ok tt) s ≡ loaded_in (opened b us cs ms') bytes → step s freeze ≡ record { state = t; answer = froze k } → settled_at (left (Ok tt) t) ≡ settlement z us cs ms bytes
+  frozen_after_is : (s t : State) (k : Book) → left (Ok tt) s ≡ loaded_in (opened b us cs ms') bytes → step s freeze ≡ record { state = t; answer = froze k } → settled_at (left (Ok tt) t) ≡ settlement z us cs ms bytes
   frozen_after_is s t k h f = sym (ap (λ (o : Outcome). settled_at (reached_by o)) f) ∙ settles (left (Ok tt) s) h
 
-  pub not_frozen : (s t : State) (k : Book) (e : Refusal) → left (Ok tt) s ≡ loaded_in (opened b us cs ms') bytes → step s freeze ≡ record { state = t; answer = stayed_open k e } → settled_at (left (Err e) t) ≡ settlement z us cs ms bytes
+  not_frozen : (s t : State) (k : Book) (e : Refusal) → left (Ok tt) s ≡ loaded_in (opened b us cs ms') bytes → step s freeze ≡ record { state = t; answer = stayed_open k e } → settled_at (left (Err e) t) ≡ settlement z us cs ms bytes
   not_frozen s t k e h f = sym (ap (λ (o : Outcome). settled_at (reached_by o)) f) ∙ settles (left (Ok tt) s) h
 
--- a refused one
-pub not_opened : (z : Sizes) (us : List UnitRow) (cs : List CostRow) (ms ms' bytes : List ℕ) (e : Refusal) → Err e ≡ answer (open_refusal z ms) (new_book z 0) → ms' ≡ unless (open_refusal z ms) ms (replicate contributors 0) →
-    ◌≡◌ {A = Settlement} (record { outcome = Err e; units = us; costs = cs; marks = ms' }) (settlement z us cs ms bytes)
-not_opened z us cs ms ms' bytes e said clear =
-    let is = err_tells (open_refusal z ms) e (new_book z 0) said in
-    ap (λ (k : List ℕ). opens_to (Some e) us cs k (frozen_after (loaded_in (at_opening z 0 us cs) bytes))) (clear ∙ ap (λ (o : Option Refusal). unless o ms (replicate contributors 0)) is)
-    ∙ sym (ap (λ (o : Option Refusal). opens_to o us cs ms (frozen_after (loaded_in (at_opening z 0 us cs) bytes))) is)
+  told_error : (r : Result FrozenBook Refusal) (e : Refusal) (Q : Refusal → Type 0) → ((d : Refusal) → Q d → d ≡ e) → IsErrAnd r Q → r ≡ Err e
+  told_error (Ok x) e Q says h = absurd h
+  told_error (Err d) e Q says h = ap Err (says d h)
+
+  -- where the code answers the freeze, or its refusal alone
+  pub freeze_leaves : (k : Book) (units : List UnitRow) (costs : List CostRow) (marks : List ℕ) (f : Result FrozenBook (OpenBook × Refusal)) (r : Result FrozenBook Refusal) (Told : OpenBook × Refusal → Refusal → Type 0) →
+      ((x : OpenBook × Refusal) (e : Refusal) → Told x e → e ≡ x.1) → MatchResult f (λ x. r ≡ Ok x) (λ x. IsErrAnd r (Told x)) → left (Ok tt) (opened k units costs marks) ≡ loaded_in (opened b us cs ms') bytes →
+      step (opened k units costs marks) freeze ≡ frozen units costs marks f → leaves r units costs marks ≡ settlement z us cs ms bytes
+  freeze_leaves k units costs marks (Ok x) r Told says told h by =
+      ap (λ (y : Result FrozenBook Refusal). leaves y units costs marks) told
+      ∙ frozen_after_is (opened k units costs marks) (closed (frozen_book x) units costs marks) (frozen_book x) h by
+  freeze_leaves k units costs marks (Err (x, e)) r Told says told h by =
+      ap (λ (y : Result FrozenBook Refusal). leaves y units costs marks) (told_error r e (Told (x, e)) (says (x, e)) told)
+      ∙ not_frozen (opened k units costs marks) (opened (open_book x) units costs marks) (open_book x) e h by

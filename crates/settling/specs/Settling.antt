@@ -21,7 +21,7 @@ use Rattle.unit_file.specs.Reading.{open_refusal as file_refusal, record_at}
 use Rattle.book_rules.specs.Machine.{Book, Pass, new_pass, open_refusal}
 use Rattle.book_rules.specs.Run.{State, Outcome, admit, hand_in, freeze, step, final, at_opening, closed}
 use Rattle.book.specs.declared.states.FrozenBook.{FrozenBook}
-use Rattle.book.specs.Load.{refusal_in, header_in, load_of}
+use Rattle.book.specs.Load.{report_refusal, refusal_in, header_in, load_of}
 use Rattle.book.specs.Shown.{frozen_book}
 
 abbrev pub sizes_in : Option Refusal → Result (Option Item) Refusal → Result Sizes Refusal
@@ -53,7 +53,7 @@ abbrev pub handed_in : Option Refusal → State → Pass → Reached
 handed_in refusal s p = record { refusal = sooner refusal (refusal_in (step s (hand_in p)).answer); state = (step s (hand_in p)).state }
 
 abbrev pub loaded_with : State → Pass → List ℕ → Reached
-loaded_with s p bytes = handed_in (load_of s p bytes).report.refusal (final s (load_of s p bytes).calls) p
+loaded_with s p bytes = handed_in (report_refusal (load_of s p bytes).report) (final s (load_of s p bytes).calls) p
 
 abbrev pub loaded_in : State → List ℕ → Reached
 loaded_in s bytes = goes_on (refusal_in (step s (admit 0)).answer) (step s (admit 0)).state (loaded_with (step s (admit 0)).state (new_pass s.book 0) bytes)

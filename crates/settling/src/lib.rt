@@ -55,7 +55,7 @@ fn load_through_a_pass(
     let pass = book.admit(marks, 0)?;
     let report = book.load(units, costs, marks, &pass, bytes);
     let ended = book.hand_in(marks, pass);
-    match report.refusal {
+    match report.refusal() {
         Some(refusal) => Err(refusal),
         None => ended,
     }
@@ -72,18 +72,7 @@ pub fn settle_file(
 ) -> Result<FrozenBook, Refusal>
     ensures { leaves result units.new costs.new marks.new ≡ settlement sizes units.old costs.old marks.old bytes.now }
 {
-    let mut book = match OpenBook::open(sizes, 0, marks) {
-        Ok(book) => book,
-        Err(refusal) => return Err(refusal),
-    };
-    if let Err(refusal) = load_through_a_pass(&mut book, units, costs, marks, bytes) {
-        return Err(refusal);
-    }
-    match book.freeze(marks) {
-        Ok(frozen) => Ok(frozen),
-        Err(back) => {
-            let (_, refusal) = back;
-            Err(refusal)
-        }
-    }
+    let mut book = OpenBook::open(sizes, 0, marks)?;
+    load_through_a_pass(&mut book, units, costs, marks, bytes)?;
+    book.freeze(marks).map_err(|(_, refusal)| refusal)
 }

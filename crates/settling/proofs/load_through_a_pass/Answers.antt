@@ -14,7 +14,7 @@ returns-in-Some c =
     let t = opened (open_book c.admit.new.self) us cs c.admit.new.marks in
     let u = opened (open_book loaded.self) loaded.units loaded.costs c.admit.new.marks in
     let v = opened (open_book loaded.self) loaded.units loaded.costs c.hand_in-ended.new.marks in
-    load_refused t u v p bs c.load-report.result c.hand_in-ended.result c.load-report.ensures (c.hand_in-ended.ensures loaded.units loaded.costs) c.in-Some.refusal c.in-Some.is
+    load_refused t u v p bs c.load-report.result c.hand_in-ended.result c.load-report.ensures (c.hand_in-ended.ensures loaded.units loaded.costs) c.in-Some.refusal (sym c.refusal.ensures ∙ c.in-Some.is)
     ∙ sym (admitted (open_book c.args.book.now) us cs c.args.marks.now bs t p (c.in_ok-pass.ensures us cs))
 
 pub returns-in-None : goal.returns-in-None
@@ -27,5 +27,5 @@ returns-in-None c =
     let t = opened (open_book c.admit.new.self) us cs c.admit.new.marks in
     let u = opened (open_book loaded.self) loaded.units loaded.costs c.admit.new.marks in
     let v = opened (open_book loaded.self) loaded.units loaded.costs c.hand_in-ended.new.marks in
-    load_done t u v p bs c.load-report.result c.hand_in-ended.result c.load-report.ensures (c.hand_in-ended.ensures loaded.units loaded.costs) c.in-None.is
+    load_done t u v p bs c.load-report.result c.hand_in-ended.result c.load-report.ensures (c.hand_in-ended.ensures loaded.units loaded.costs) (sym c.refusal.ensures ∙ c.in-None.is)
     ∙ sym (admitted (open_book c.args.book.now) us cs c.args.marks.now bs t p (c.in_ok-pass.ensures us cs))

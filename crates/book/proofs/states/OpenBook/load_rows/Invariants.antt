@@ -7,10 +7,10 @@ use Rattle.book.proofs.states.OpenBook.load_rows.Given as goal
 
 abbrev pub invariant-loop-found : goal.invariant-loop-found
 invariant-loop-found l =
-    (l.reader.bytes.now ≡ l.bytes)
-    × Sofar l.bytes (pass_of l.pass) (opened (open_book l.initial.self) l.initial.units l.initial.costs l.marks)
-    (load_from (length l.bytes) l.bytes (pass_of l.pass) (opened (open_book l.initial.self) l.initial.units l.initial.costs l.marks) l.initial.reader.place 0)
-    (opened (open_book l.self) l.units l.costs l.marks) l.reader.place l.rows
+    (l.reader.bytes.now ≡ l.fn.reader.bytes.now)
+    × Sofar l.fn.reader.bytes.now (pass_of l.pass) (opened (open_book l.initial.self) l.initial.units l.initial.costs l.marks)
+    (load_from (length l.fn.reader.bytes.now) l.fn.reader.bytes.now (pass_of l.pass) (opened (open_book l.initial.self) l.initial.units l.initial.costs l.marks) l.fn.reader.place 0)
+    (opened (open_book l.self) l.units l.costs l.marks) l.reader.place l.report.rows
 
 abbrev pub decreases-loop-found : goal.decreases-loop-found
-decreases-loop-found l = length l.bytes - l.reader.place
+decreases-loop-found l = length l.fn.reader.bytes.now - l.reader.place
