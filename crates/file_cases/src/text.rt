@@ -1,7 +1,7 @@
 // Listings, and files that are made of text.
 use std::test::Fail;
 use tariff::Refusal;
-use unit_text::{Fault, Reason, compose, list};
+use unit_text::{ComposeError, Fault, Reason, compose, list};
 
 const FILE: [u8; 36] = [
     1, 0, 5, 0, 0, 3, 1, 1, 0, 11, 1, 0, 0, 1, 1, 1, 0, 0, 0, 2, 88, 0, 9, 2, 3, 1, 1, 1, 0, 0, 3,
@@ -15,13 +15,11 @@ fn listed_and_composed(rt: HostRuntime) -> Result<(), Fail> {
     let text =
         b"book customers 3 days 1 subzones 1\nunits customer 0 day 1 hour 1 subzone 1 use 0 quantity 600\ncost line 3 subzone 1 day 1 hour 1 amount 1000\nnote !\n";
     assert!(rt; listing.text.as_slice() == text.as_slice());
-    match compose(rt.alloc(), listing.text.as_slice())? {
-        Ok(file) => {
-            assert!(rt; file.as_slice() == FILE.as_slice());
-            Ok(())
-        },
-        Err(_) => Err(Fail::new("the listing is composed")),
-    }
+    let Ok(file) = compose(rt.alloc(), listing.text.as_slice()) else {
+        return Err(Fail::new("the listing is composed"));
+    };
+    assert!(rt; file.as_slice() == FILE.as_slice());
+    Ok(())
 }
 
 #[test]
@@ -35,9 +33,10 @@ fn a_fault_ends_the_listing(rt: HostRuntime) -> Result<(), Fail> {
 }
 
 fn fault_of(rt: &HostRuntime, text: &[u8]) -> Result<Fault, Fail> {
-    match compose(rt.alloc(), text)? {
+    match compose(rt.alloc(), text) {
         Ok(_) => Err(Fail::new("the text has a fault")),
-        Err(fault) => Ok(fault),
+        Err(ComposeError::Fault(fault)) => Ok(fault),
+        Err(ComposeError::OutOfMemory(error)) => Err(error.into()),
     }
 }
 

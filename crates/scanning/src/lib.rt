@@ -1,29 +1,46 @@
 // Words and numbers at the front of a text.
 #![tactic(auto)]
 
-ghost use Rattle.std.specs.Prelude.{◌≡◌, ◌≤◌, IfSome};
-ghost use Rattle.scanning.specs.Scanning.{after_word, is_digit, number_in, field_in};
+ghost use Rattle.std.specs.Prelude.{◌≡◌, ◌≤◌, true, IfSome};
+ghost use Rattle.scanning.specs.Scanning.{after_word, is_digit, value_in, number_in, field_in};
+ghost use Rattle.std.specs.List.{list_all, prefix_len};
 ghost use Rattle.std.specs.Option.{option_map};
+
+pub mod unsigned;
+
+pub use unsigned::Number;
 
 // What follows a word, if the text begins with it.
 pub fn after_word<'a>(text: &'a [u8], word: &[u8]) -> Option<&'a [u8]>
     ensures { option_map (λ x. x.now) result ≡ after_word word.now text.now }
 {
-    if text.len() < word.len() {
+    text.strip_prefix(word)
+}
+
+// How many digits stand at the front.
+fn digit_count(text: &[u8]) -> usize
+    ensures { result ≡ prefix_len is_digit text.now }
+{
+    text.iter().take_while(|b| b.is_ascii_digit()).count()
+}
+
+// The number that digits say, if there are any.
+fn value_of(digits: &[u8], most: u64) -> Option<u64>
+    requires { list_all is_digit digits.now ≡ true }
+    ensures value { result ≡ value_in most digits.now }
+    ensures bound { IfSome result (λ n. n ≤ most) }
+{
+    if digits.is_empty() {
         return None;
     }
-    for (i, w) in word.iter().enumerate() {
-        if text[i] != *w {
+    let mut value: u64 = 0;
+    for digit in digits {
+        value = value.checked_mul(10)?.checked_add((*digit - b'0') as u64)?;
+        if value > most {
             return None;
         }
     }
-    Some(&text[word.len()..text.len()])
-}
-
-fn is_digit(b: u8) -> bool
-    ensures { result ≡ is_digit b }
-{
-    b >= 48 && b <= 57
+    Some(value)
 }
 
 // The number at the front of the text, of digits, and what follows it.
@@ -31,22 +48,8 @@ pub fn number<'a>(text: &'a [u8], most: u64) -> Option<(u64, &'a [u8])>
     ensures value { option_map (λ p. (p.0, p.1.now)) result ≡ number_in most text.now }
     ensures bound { IfSome result (λ p. p.0 ≤ most) }
 {
-    if text.len() == 0 || !is_digit(text[0]) {
-        return None;
-    }
-    let mut value: u64 = 0;
-    for (i, b) in text.iter().enumerate() {
-        if !is_digit(*b) {
-            return Some((value, &text[i..text.len()]));
-        }
-        // ten times a number of 64 bits can pass 64 bits
-        let longer = value as u128 * 10 + (*b - 48) as u128;
-        if longer > most as u128 {
-            return None;
-        }
-        value = longer as u64;
-    }
-    Some((value, &text[text.len()..text.len()]))
+    let (digits, rest) = text.split_at(digit_count(text));
+    Some((value_of(digits, most)?, rest))
 }
 
 // A word, and the number behind it.
@@ -54,8 +57,14 @@ pub fn field<'a>(text: &'a [u8], word: &[u8], most: u64) -> Option<(u64, &'a [u8
     ensures value { option_map (λ p. (p.0, p.1.now)) result ≡ field_in word.now most text.now }
     ensures bound { IfSome result (λ p. p.0 ≤ most) }
 {
-    match after_word(text, word) {
-        Some(rest) => number(rest, most),
-        None => None,
-    }
+    let rest = after_word(text, word)?;
+    number(rest, most)
+}
+
+// A word, and behind it a number that the type holds.
+pub fn field_of<'a, N: Number>(text: &'a [u8], word: &[u8]) -> Option<(N, &'a [u8])>
+    ensures { option_map (λ p. (N.worth p.0, p.1.now)) result ≡ field_in word.now N.MOST text.now }
+{
+    let (value, rest) = field(text, word, N::MOST)?;
+    Some((N::holding(value)?, rest))
 }

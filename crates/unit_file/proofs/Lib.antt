@@ -2,4 +2,4 @@ pub mod Framing
 pub mod Fields
 pub mod Walk
 pub mod RoundTrip
-pub mod Pasting
+pub mod Writes

@@ -1,4 +1,5 @@
 pub mod Records
+pub mod Kinds
 pub mod Reading
 pub mod Writing
 pub mod Laws

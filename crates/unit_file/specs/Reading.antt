@@ -7,6 +7,8 @@
 --   fits_kind                   whether a length is one of a kind; an unknown kind has no length of its own
 --   bad_length                  cut short, of length 0, or not of its kind's length
 --   bad_kind                    of an unknown kind, or a note with a byte outside 32 to 126
+--   Framed                      a record of this kind byte and these fields stands in front, and its
+--                               length is one of its kind
 --   record_refusal              why the record is refused: all of its length, and then its kind
 --   record_in                   the record, or its refusal
 --   some, after                 an answer that is there; the place after one that is, else the same place
@@ -23,7 +25,7 @@
 --   records_of                  a file's records, or the first refusal
 --   counted                     how many records, or the refusal
 --   one_said, said              what a call answered, each record by what it says
-use Rattle.std.specs.Prelude.{ℕ, zero, suc, ◌+◌, ◌-◌, ◌*◌, Bool, true, false, cond, not, ◌&&◌, ◌||◌, List, [], ◌∷◌, length, take, drop, Some, None, Ok, Err, Option, Result, ◌==◌, nat_le, nat_lt, slice_index}
+use Rattle.std.specs.Prelude.{◌≡◌, ℕ, zero, suc, ◌+◌, ◌-◌, ◌*◌, Bool, true, false, cond, not, ◌&&◌, ◌||◌, List, [], ◌∷◌, length, take, drop, Some, None, Ok, Err, Option, Result, ◌==◌, nat_le, nat_lt, slice_index}
 use Rattle.std.specs.Option.{option_map}
 use Rattle.tariff.specs.Limits.{most_file_bytes, most_note_bytes}
 use Rattle.tariff.specs.Refusals.{first_of, answer}
@@ -73,6 +75,12 @@ bad_length rest = nat_lt (length rest) 2 || (length_in rest == 0 || (nat_lt (len
 
 abbrev pub bad_kind : ℕ → List ℕ → Bool
 bad_kind kind f = nat_lt 3 kind || (kind == 3 && unprintable f)
+
+pub record Framed (rest : List ℕ) (kind : ℕ) (fields : List ℕ) : Type 0 where
+  pub good : bad_length rest ≡ false
+  pub kind_is : kind ≡ kind_in rest
+  pub fields_are : fields ≡ fields_in rest
+  pub long : 1 + length fields ≡ length_in rest
 
 abbrev pub record_refusal : List ℕ → ℕ → Option Refusal
 record_refusal rest place = first_of ((bad_length rest, RecordLength place) ∷ (bad_kind (kind_in rest) (fields_in rest), RecordKind place) ∷ [])

@@ -8,7 +8,7 @@
 --   bytes_of               the whole record: two bytes of length, the kind, the fields
 --   file_of                a whole file: the version byte 1 and the records
 use Rattle.std.specs.Prelude.{ℕ, ◌+◌, ◌/◌, ◌%◌, Bool, true, false, ◌||◌, List, [], ◌∷◌, ◌++◌, length, nat_lt}
-use Rattle.std.specs.List.{flat_map}
+use Rattle.std.specs.List.{flat_map, list_any}
 use Rattle.tariff.specs.declared.rows.Sizes.{Sizes}
 use Rattle.tariff.specs.declared.rows.UnitRow.{UnitRow}
 use Rattle.tariff.specs.declared.rows.CostRow.{CostRow}
@@ -34,8 +34,7 @@ is_header (cost row) = false
 is_header (note bytes) = false
 
 abbrev pub unprintable : List ℕ → Bool
-unprintable [] = false
-unprintable (b ∷ bs) = (nat_lt b 32 || nat_lt 126 b) || unprintable bs
+unprintable = list_any (λ b. nat_lt b 32 || nat_lt 126 b)
 
 abbrev pub two_bytes : ℕ → List ℕ
 two_bytes n = n / 256 ∷ n % 256 ∷ []

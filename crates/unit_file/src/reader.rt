@@ -1,15 +1,18 @@
 // Reads a unit file, record by record, and a whole file.
-ghost use Rattle.std.specs.Prelude.{◌≡◌, ◌+◌, ◌-◌, ◌*◌, ◌<◌, ◌≤◌, true, false, [], ◌∷◌, length, Some, None, MatchResult};
+ghost use Rattle.std.specs.Prelude.{◌≡◌, ◌+◌, ◌-◌, ◌*◌, ◌<◌, ◌≤◌, true, false, [], ◌∷◌, length, Some, None, MatchResult, MatchOption};
 ghost use Rattle.std.specs.Option.{option_map};
 ghost use Rattle.tariff.specs.Refusals.{answer, first_of};
 ghost use Rattle.tariff.specs.declared.refusal.Refusal.TheVariants.{RecordKind};
-ghost use Rattle.unit_file.specs.Reading.{two_in, four_in, length_in, sizes_in, unit_in, cost_in, item_by, fits_kind, bad_length, bad_kind, kind_in, record_at, next_place, ordered_at, place_in_order, open_refusal, misplaced, records_of, counted, one_said, said};
+ghost use Rattle.unit_file.specs.Reading.{two_in, four_in, length_in, sizes_in, unit_in, cost_in, item_by, fits_kind, bad_length, bad_kind, Framed, record_at, next_place, ordered_at, place_in_order, open_refusal, misplaced, records_of, counted, one_said, said};
 ghost use Rattle.unit_file.specs.Laws.{Rewritten};
 ghost use Rattle.unit_file.specs.Records.{item_of, unprintable};
 
-use crate::record::Record;
+use crate::record::{Kind, Record, UnknownKind};
 use tariff::limits::{MOST_FILE_BYTES, MOST_NOTE_BYTES};
 use tariff::{CostRow, Refusal, Sizes, UnitRow};
+
+// The first byte of a unit file.
+pub(crate) const VERSION: u8 = 1;
 
 // Stands at a place of borrowed bytes; `new` sets it behind the version byte.
 #[derive(Drop)]
@@ -18,27 +21,12 @@ pub struct Reader<'a> {
     place: usize,
 }
 
-fn two(bytes: &[u8], i: usize) -> u16
-    requires { i + 1 < length bytes.now }
-    ensures { result ≡ two_in bytes.now i }
-{
-    bytes[i] as u16 * 256 + bytes[i + 1] as u16
-}
-
-fn four(bytes: &[u8], i: usize) -> u32
-    requires { i + 3 < length bytes.now }
-    ensures { result ≡ four_in bytes.now i }
-{
-    bytes[i] as u32 * 16777216
-        + (bytes[i + 1] as u32 * 65536 + (bytes[i + 2] as u32 * 256 + bytes[i + 3] as u32))
-}
-
 fn sizes_in(fields: &[u8]) -> Sizes
     requires { length fields.now ≡ 4 }
     ensures { result ≡ sizes_in fields.now }
 {
     Sizes {
-        customers: two(fields, 0),
+        customers: u16::from_be_bytes([fields[0], fields[1]]),
         days: fields[2],
         subzones: fields[3],
     }
@@ -49,12 +37,12 @@ fn unit_in(fields: &[u8]) -> UnitRow
     ensures { result ≡ unit_in fields.now }
 {
     UnitRow {
-        customer: two(fields, 0),
+        customer: u16::from_be_bytes([fields[0], fields[1]]),
         day: fields[2],
         hour: fields[3],
         subzone: fields[4],
         usage: fields[5],
-        quantity: four(fields, 6),
+        quantity: u32::from_be_bytes([fields[6], fields[7], fields[8], fields[9]]),
     }
 }
 
@@ -67,61 +55,56 @@ fn cost_in(fields: &[u8]) -> CostRow
         subzone: fields[1],
         day: fields[2],
         hour: fields[3],
-        amount: four(fields, 4),
+        amount: u32::from_be_bytes([fields[4], fields[5], fields[6], fields[7]]),
     }
 }
 
 pub(crate) fn has_unprintable(note: &[u8]) -> bool
     ensures { result ≡ unprintable note.now }
 {
-    for b in note {
-        if *b < 32 || *b > 126 {
-            return true;
-        }
-    }
-    false
+    note.iter().any(|b| *b < 32 || *b > 126)
 }
 
+// Whether a record of a kind byte may have so many bytes behind its length. An unknown kind has
+// no length of its own.
 fn fits_kind(kind: u8, len: usize) -> bool
     ensures { result ≡ fits_kind kind len }
 {
-    match kind {
-        0 => len == 5,
-        1 => len == 11,
-        2 => len == 9,
-        3 => len >= 2 && len <= 1 + MOST_NOTE_BYTES,
-        _ => true,
+    match Kind::try_from(kind) {
+        Ok(Kind::Header) => len == 5,
+        Ok(Kind::Unit) => len == 11,
+        Ok(Kind::Cost) => len == 9,
+        Ok(Kind::Note) => len >= 2 && len <= 1 + MOST_NOTE_BYTES,
+        Err(UnknownKind) => true,
     }
 }
 
-// The record of a kind, from fields that have the length of that kind.
-fn decode<'a>(kind: u8, fields: &'a [u8], place: usize) -> Result<Record<'a>, Refusal>
+// The kind byte and the fields of the record in front, if all of it is there and it is as long as
+// its kind may be.
+fn framed<'a>(rest: &'a [u8]) -> Option<(u8, &'a [u8])>
+    ensures { MatchOption result (bad_length rest.now ≡ true) (λ found. Framed rest.now found.0 found.1.now) }
+{
+    let (len, behind) = rest.split_first_chunk()?;
+    let len = u16::from_be_bytes(*len) as usize;
+    let (kind, fields) = behind.get(..len)?.split_first()?;
+    if !fits_kind(*kind, len) {
+        return None;
+    }
+    Some((*kind, fields))
+}
+
+// The record of a kind byte, from fields that have the length of that kind.
+fn decode<'a>(kind: u8, fields: &'a [u8]) -> Option<Record<'a>>
     requires { fits_kind kind (length fields.now + 1) ≡ true }
-    ensures { one_said result ≡ answer (first_of ((bad_kind kind fields.now, RecordKind place) ∷ [])) (item_by kind fields.now) }
+    ensures { MatchOption result (bad_kind kind fields.now ≡ true) (λ found. (bad_kind kind fields.now ≡ false) × (item_of found ≡ item_by kind fields.now)) }
 {
-    match kind {
-        0 => Ok(Record::Header(sizes_in(fields))),
-        1 => Ok(Record::Unit(unit_in(fields))),
-        2 => Ok(Record::Cost(cost_in(fields))),
-        3 => {
-            if has_unprintable(fields) {
-                return Err(Refusal::RecordKind { place });
-            }
-            Ok(Record::Note(fields))
-        }
-        _ => Err(Refusal::RecordKind { place }),
+    match Kind::try_from(kind).ok()? {
+        Kind::Header => Some(Record::Header(sizes_in(fields))),
+        Kind::Unit => Some(Record::Unit(unit_in(fields))),
+        Kind::Cost => Some(Record::Cost(cost_in(fields))),
+        Kind::Note if has_unprintable(fields) => None,
+        Kind::Note => Some(Record::Note(fields)),
     }
-}
-
-fn has_bad_length(rest: &[u8]) -> bool
-    ensures value { result ≡ bad_length rest.now }
-    ensures whole { result ≡ false → (0 < length_in rest.now) × (2 + length_in rest.now ≤ length rest.now) × (fits_kind (kind_in rest.now) (length_in rest.now) ≡ true) }
-{
-    if rest.len() < 2 {
-        return true;
-    }
-    let len = two(rest, 0) as usize;
-    len == 0 || rest.len() - 2 < len || !fits_kind(rest[2], len)
 }
 
 // Whether what was found at a place breaks the header's order; at place 1 nothing else may stand.
@@ -139,7 +122,7 @@ impl<'a> Reader<'a> {
     pub fn new(bytes: &'a [u8]) -> Result<Reader<'a>, Refusal>
         ensures { MatchResult result (λ o. (open_refusal bytes.now ≡ None) × (o.bytes.now ≡ bytes.now) × (o.place ≡ 1)) (λ e. open_refusal bytes.now ≡ Some e) }
     {
-        if bytes.len() == 0 || bytes.len() > MOST_FILE_BYTES || bytes[0] != 1 {
+        if bytes.first() != Some(&VERSION) || bytes.len() > MOST_FILE_BYTES {
             return Err(Refusal::NoUnitFile);
         }
         Ok(Reader { bytes, place: 1 })
@@ -159,23 +142,14 @@ impl<'a> Reader<'a> {
         ensures place { self.new.place ≡ next_place self.old.bytes.now self.old.place }
         ensures bytes { self.new.bytes.now ≡ self.old.bytes.now }
     {
-        let bytes = self.bytes;
         let place = self.place;
-        if place >= bytes.len() {
+        if place >= self.bytes.len() {
             return Ok(None);
         }
-        let rest = &bytes[place..bytes.len()];
-        if has_bad_length(rest) {
-            return Err(Refusal::RecordLength { place });
-        }
-        let whole = 2 + two(rest, 0) as usize;
-        match decode(rest[2], &rest[3..whole], place) {
-            Ok(record) => {
-                self.place = place + whole;
-                Ok(Some(record))
-            }
-            Err(e) => Err(e),
-        }
+        let (kind, fields) = framed(&self.bytes[place..]).ok_or(Refusal::RecordLength { place })?;
+        let record = decode(kind, fields).ok_or(Refusal::RecordKind { place })?;
+        self.place = place + 3 + fields.len();
+        Ok(Some(record))
     }
 
     // The next record of a whole file, in which the first record is the header and no other is.
@@ -185,16 +159,12 @@ impl<'a> Reader<'a> {
         ensures bytes { self.new.bytes.now ≡ self.old.bytes.now }
     {
         let place = self.place;
-        match self.next() {
-            Ok(found) => {
-                if is_misplaced(place, found) {
-                    self.place = place;
-                    return Err(Refusal::RecordKind { place });
-                }
-                Ok(found)
-            }
-            Err(e) => Err(e),
+        let found = self.next()?;
+        if is_misplaced(place, found) {
+            self.place = place;
+            return Err(Refusal::RecordKind { place });
         }
+        Ok(found)
     }
 }
 

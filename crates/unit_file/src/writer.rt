@@ -2,18 +2,20 @@
 ghost use Rattle.std.specs.Prelude.{◌≡◌, ◌+◌, ◌-◌, ◌<◌, ◌≤◌, true, false, List, [], ◌∷◌, ◌++◌, length, take, IfOk, Some, None, Ok, Err, OnOk, nat_lt};
 ghost use Rattle.tariff.specs.Limits.{most_file_bytes};
 ghost use Rattle.tariff.specs.Refusals.{answer, unless};
+ghost use Rattle.buffer.specs.Putting.{pasted, put_refusal as buffer_refusal};
 ghost use Rattle.unit_file.specs.Laws.{ReadBack};
 ghost use Rattle.unit_file.specs.Reading.{records_of};
 ghost use Rattle.unit_file.specs.Records.{Item, header, unit, cost, note, item_of, bytes_of, file_of};
-ghost use Rattle.unit_file.specs.Writing.{bad_note_length, bad_note_bytes, put_refusal, begin_refusal, finish_refusal, pasted, WrittenAs};
+ghost use Rattle.unit_file.specs.Writing.{bad_note_length, bad_note_bytes, file_refusal, put_refusal, begin_refusal, finish_refusal, WrittenAs};
 
-use crate::reader::{has_unprintable, is_misplaced};
-use crate::record::Record;
+use crate::reader::{VERSION, has_unprintable, is_misplaced};
+use crate::record::{Kind, Record};
+use buffer::put_bytes;
 use tariff::limits::{MOST_FILE_BYTES, MOST_NOTE_BYTES};
 use tariff::{CostRow, Refusal, Sizes, UnitRow};
 
-// Stands at the place where the next record goes. The buffer is lent to each call, so that the
-// caller can look at it in between.
+// Stands at the place where the next record goes. The buffer is the caller's, and is lent to each
+// call: so each contract says what it then holds.
 #[derive(Drop)]
 pub struct Writer {
     place: usize,
@@ -22,13 +24,13 @@ pub struct Writer {
 fn header_bytes(sizes: Sizes) -> [u8; 7]
     ensures { result ≡ bytes_of (header sizes) }
 {
-    let customers = sizes.customers;
+    let [high, low] = sizes.customers.to_be_bytes();
     [
         0,
         5,
-        0,
-        (customers / 256) as u8,
-        (customers % 256) as u8,
+        Kind::Header as u8,
+        high,
+        low,
         sizes.days,
         sizes.subzones,
     ]
@@ -37,75 +39,72 @@ fn header_bytes(sizes: Sizes) -> [u8; 7]
 fn unit_bytes(row: UnitRow) -> [u8; 13]
     ensures { result ≡ bytes_of (unit row) }
 {
-    let customer = row.customer;
-    let quantity = row.quantity;
+    let [high, low] = row.customer.to_be_bytes();
+    let [q0, q1, q2, q3] = row.quantity.to_be_bytes();
     [
         0,
         11,
-        1,
-        (customer / 256) as u8,
-        (customer % 256) as u8,
+        Kind::Unit as u8,
+        high,
+        low,
         row.day,
         row.hour,
         row.subzone,
         row.usage,
-        (quantity / 16777216) as u8,
-        (quantity / 65536 % 256) as u8,
-        (quantity / 256 % 256) as u8,
-        (quantity % 256) as u8,
+        q0,
+        q1,
+        q2,
+        q3,
     ]
 }
 
 fn cost_bytes(row: CostRow) -> [u8; 11]
     ensures { result ≡ bytes_of (cost row) }
 {
-    let amount = row.amount;
+    let [a0, a1, a2, a3] = row.amount.to_be_bytes();
     [
         0,
         9,
-        2,
+        Kind::Cost as u8,
         row.line,
         row.subzone,
         row.day,
         row.hour,
-        (amount / 16777216) as u8,
-        (amount / 65536 % 256) as u8,
-        (amount / 256 % 256) as u8,
-        (amount % 256) as u8,
+        a0,
+        a1,
+        a2,
+        a3,
     ]
 }
 
-fn paste(out: &mut [u8], place: usize, bytes: &[u8])
-    requires { place + length bytes.now ≤ length out.old }
-    ensures { out.new ≡ pasted out.old place bytes.now }
+// The text goes first: where it fits, the three bytes before it do too.
+fn put_note(out: &mut [u8], place: usize, text: &[u8]) -> Result<usize, Refusal>
+    requires { place + length (bytes_of (note text.now)) ≤ most_file_bytes }
+    ensures answers { result ≡ answer (buffer_refusal (length out.old) place (bytes_of (note text.now))) (place + length (bytes_of (note text.now))) }
+    ensures out { out.new ≡ unless (buffer_refusal (length out.old) place (bytes_of (note text.now))) out.old (pasted out.old place (bytes_of (note text.now))) }
 {
-    out[place..place + bytes.len()].copy_from_slice(bytes);
+    let [high, low] = (1 + text.len() as u16).to_be_bytes();
+    let end = put_bytes(out, place + 3, text)?;
+    put_bytes(out, place, &[high, low, Kind::Note as u8])?;
+    Ok(end)
 }
 
-fn paste_note(out: &mut [u8], place: usize, text: &[u8])
-    requires { (length text.now < 65535) × (place + length (bytes_of (note text.now)) ≤ length out.old) }
-    ensures { out.new ≡ pasted out.old place (bytes_of (note text.now)) }
-{
-    let len = 1 + text.len();
-    paste(out, place, &[(len / 256) as u8, (len % 256) as u8, 3]);
-    paste(out, place + 3, text);
-}
-
-fn paste_record(out: &mut [u8], place: usize, record: Record)
-    requires { (length (bytes_of (item_of «record»)) < 65538) × (place + length (bytes_of (item_of «record»)) ≤ length out.old) }
-    ensures { out.new ≡ pasted out.old place (bytes_of (item_of «record».entry)) }
+// Writes the bytes of a record from a place on; a buffer too short is refused and stays as it was.
+fn put_record(out: &mut [u8], place: usize, record: Record) -> Result<usize, Refusal>
+    requires { place + length (bytes_of (item_of «record»)) ≤ most_file_bytes }
+    ensures answers { result ≡ answer (buffer_refusal (length out.old) place (bytes_of (item_of «record».entry))) (place + length (bytes_of (item_of «record».entry))) }
+    ensures out { out.new ≡ unless (buffer_refusal (length out.old) place (bytes_of (item_of «record».entry))) out.old (pasted out.old place (bytes_of (item_of «record».entry))) }
 {
     match record {
-        Record::Header(sizes) => paste(out, place, &header_bytes(sizes)),
-        Record::Unit(row) => paste(out, place, &unit_bytes(row)),
-        Record::Cost(row) => paste(out, place, &cost_bytes(row)),
-        Record::Note(note) => paste_note(out, place, note),
+        Record::Header(sizes) => put_bytes(out, place, &header_bytes(sizes)),
+        Record::Unit(row) => put_bytes(out, place, &unit_bytes(row)),
+        Record::Cost(row) => put_bytes(out, place, &cost_bytes(row)),
+        Record::Note(note) => put_note(out, place, note),
     }
 }
 
-// How many bytes a record takes, if it is not longer than any file.
+// How many bytes a record takes.
 fn length_of(record: Record) -> usize
-    requires { length (bytes_of (item_of «record»)) ≤ 3 + most_file_bytes }
     ensures { result ≡ length (bytes_of (item_of «record».entry)) }
 {
     match record {
@@ -116,23 +115,11 @@ fn length_of(record: Record) -> usize
     }
 }
 
-// Whether a file that has come to `place` would pass its limit with this record.
-fn is_too_long(place: usize, record: Record) -> bool
-    ensures { result ≡ nat_lt most_file_bytes (place + length (bytes_of (item_of «record».entry))) }
-{
-    if let Record::Note(note) = record {
-        if note.len() > MOST_FILE_BYTES {
-            return true;
-        }
-    }
-    place > MOST_FILE_BYTES || place + length_of(record) > MOST_FILE_BYTES
-}
-
 fn has_bad_note_length(record: Record) -> bool
     ensures { result ≡ bad_note_length (item_of «record».entry) }
 {
     match record {
-        Record::Note(note) => note.len() == 0 || note.len() > MOST_NOTE_BYTES,
+        Record::Note(note) => note.is_empty() || note.len() > MOST_NOTE_BYTES,
         _ => false,
     }
 }
@@ -146,23 +133,20 @@ fn has_bad_note_bytes(record: Record) -> bool
     }
 }
 
-// Why a record is not written at a place of a buffer of `room` bytes.
-fn put_refusal(place: usize, room: usize, record: Record) -> Option<Refusal>
-    ensures { result ≡ put_refusal place room (item_of «record».entry) }
+// Whether a record may stand at a place of a file.
+fn check_record(place: usize, record: Record) -> Result<(), Refusal>
+    ensures { result ≡ answer (file_refusal place (item_of «record».entry)) tt }
 {
-    if is_too_long(place, record) {
-        return Some(Refusal::NoUnitFile);
+    if place > MOST_FILE_BYTES || length_of(record) > MOST_FILE_BYTES - place {
+        return Err(Refusal::NoUnitFile);
     }
     if has_bad_note_length(record) {
-        return Some(Refusal::RecordLength { place });
+        return Err(Refusal::RecordLength { place });
     }
     if has_bad_note_bytes(record) || is_misplaced(place, Some(record)) {
-        return Some(Refusal::RecordKind { place });
+        return Err(Refusal::RecordKind { place });
     }
-    if room < place + length_of(record) {
-        return Some(Refusal::BufferTooShort);
-    }
-    None
+    Ok(())
 }
 
 impl Writer {
@@ -172,11 +156,8 @@ impl Writer {
         ensures out { out.new ≡ unless (begin_refusal (length out.old)) out.old (pasted out.old 0 (1 ∷ [])) }
         ensures written { IfOk result (λ writer. WrittenAs [] writer.place out.new) }
     {
-        if out.len() == 0 {
-            return Err(Refusal::BufferTooShort);
-        }
-        paste(out, 0, &[1]);
-        Ok(Writer { place: 1 })
+        let place = put_bytes(out, 0, &[VERSION])?;
+        Ok(Writer { place })
     }
 
     // The place where the next record goes: how many bytes are written.
@@ -193,12 +174,8 @@ impl Writer {
         ensures place { self.new.place ≡ unless (put_refusal self.old.place (length out.old) (item_of «record».entry)) self.old.place (self.old.place + length (bytes_of (item_of «record».entry))) }
         ensures written { OnOk result ((items : List Item) → WrittenAs items self.old.place out.old → WrittenAs (items ++ item_of «record».entry ∷ []) self.new.place out.new) }
     {
-        let place = self.place;
-        if let Some(refusal) = put_refusal(place, out.len(), record) {
-            return Err(refusal);
-        }
-        paste_record(out, place, record);
-        self.place = place + length_of(record);
+        check_record(self.place, record)?;
+        self.place = put_record(out, self.place, record)?;
         Ok(())
     }
 

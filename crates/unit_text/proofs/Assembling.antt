@@ -1,13 +1,18 @@
 -- A file that is made of lines, line by line.
-use Rattle.std.proofs.Common.{◌≡◌, ℕ, zero, suc, ◌+◌, ◌<◌, ◌≤◌, Bool, cond, List, [], ◌∷◌, ◌++◌, length, get_or, take, drop, Some, None, Ok, Err, Option, Result, sym, refl, ap, ◌∙◌, arith}
-use Rattle.std.proofs.lemmas.List.{length-take-le, length-drop, drop_all, take_all}
-use Rattle.std.proofs.lemmas.Bool.{eq-eqb, ne_eqb}
+use Rattle.std.proofs.Common.{◌≡◌, ℕ, suc, ◌+◌, ◌<◌, ◌≤◌, Bool, true, false, cond, not, eqb, ltb, List, [], ◌∷◌, ◌++◌, length, take, drop, Some, None, Ok, Err, Option, Result, sym, refl, ap, ◌∙◌, subst, arith}
+use Rattle.std.proofs.lemmas.List.{length-take-le, drop_all, take_all}
+use Rattle.std.proofs.lemmas.Bool.{ltb-false}
+use Rattle.std.specs.List.{position, position_or_len}
 use Rattle.tariff.specs.Limits.{most_file_bytes}
 use Rattle.tariff.specs.Refusals.{answer, unless}
 use Rattle.tariff.specs.declared.refusal.Refusal.{Refusal}
-use Rattle.unit_file.specs.Records.{Item, bytes_of}
-use Rattle.unit_file.specs.Writing.{put_refusal, finish_refusal, pasted, WrittenAs}
-use Rattle.unit_file.proofs.Pasting.{has_room, take_pasted}
+use Rattle.std.specs.Option.{option_map, ok_or}
+use Rattle.unit_file.specs.declared.record.Record.{Record}
+use Rattle.unit_file.specs.Records.{Item, item_of, bytes_of}
+use Rattle.unit_file.specs.Writing.{put_refusal, finish_refusal, WrittenAs}
+use Rattle.buffer.specs.Putting.{pasted}
+use Rattle.buffer.proofs.Pasting.{take_pasted}
+use Rattle.unit_file.proofs.Writes.{has_room}
 use Rattle.unit_text.specs.declared.composing.Reason.{Reason}
 use Rattle.unit_text.specs.declared.composing.Reason.TheVariants.{Refused}
 use Rattle.unit_line.specs.Parsing.{item_in}
@@ -28,6 +33,11 @@ same_answer (Some d) x y e = impossible (cc)
 pub refused_by : {X : Type 0} (o : Option Refusal) (y : X) (d : Refusal) → Err d ≡ answer o y → o ≡ Some d
 refused_by None y d e = impossible (cc)
 refused_by (Some f) y d e = let s : f ≡ d = cc in ap Some s
+
+-- what is read of a line, and what the call that reads it answers
+pub parsed : {E : Type 0} (o : Option Record) (r : Record) (e : E) → Ok r ≡ ok_or o e → Some (item_of r) ≡ option_map item_of o
+parsed None r e h = impossible (cc)
+parsed (Some x) r e h = let s : r ≡ x = cc in ap (λ (y : Record). Some (item_of y)) s
 
 -- what a line adds
 added : (place : ℕ) (out : List ℕ) (o : Option Item) (item : Item) (e : Option Refusal) → place ≤ length out → length out ≡ most_file_bytes → Some item ≡ o →
@@ -71,22 +81,44 @@ was_refused place out text item e line texts inside room same refusal =
     ap (λ (a : Result (List ℕ) Reason). go_on line a (λ bytes. compose_from (line + 1) (take place out ++ bytes) texts)) (added place out (item_in text) item (Some e) inside room same refusal)
 
 -- the first line of a text
-more_one : (n : ℕ) → suc (n + 1) ≡ suc n + 1
-more_one n = omega arith
+abbrev is_end : ℕ → Bool
+is_end b = eqb b 10
 
-pub first_line : (text : List ℕ) (n : ℕ) → 0 < length text → n ≤ length text → ((k : ℕ) → k < n → get_or text k 0 ≡ 10 → ⊥) → (n < length text → get_or text n 0 ≡ 10) →
-    lines_in text ≡ take n text ∷ lines_in (drop (n + 1) text)
-first_line [] n some inside before found = absurd (omega arith)
-first_line (b ∷ bs) zero some inside before found =
-    ap (λ (t : Bool). cond t ([] ∷ lines_in bs) (longer b (lines_in bs))) (eq-eqb b 10 (found some))
-first_line (b ∷ []) (suc n) some inside before found =
-    ap (λ (t : Bool). cond t ([] ∷ []) ((b ∷ []) ∷ [])) (ne_eqb b 10 (before 0 (omega arith)))
-    ∙ sym (ap (λ (line : List ℕ). line ∷ lines_in (drop (suc n + 1) (b ∷ []))) (take_all (suc n) (b ∷ []) (omega arith))
-    ∙ ap (λ (more : List ℕ). (b ∷ []) ∷ lines_in more) (drop_all (suc n + 1) (b ∷ []) (omega arith)))
-first_line (b ∷ d ∷ bs) (suc n) some inside before found =
-    ap (λ (t : Bool). cond t ([] ∷ lines_in (d ∷ bs)) (longer b (lines_in (d ∷ bs)))) (ne_eqb b 10 (before 0 (omega arith)))
-    ∙ ap (longer b) (first_line (d ∷ bs) n (omega arith) (omega arith) (λ k h. before (suc k) (omega arith)) (λ h. found (omega arith)))
-    ∙ ap (λ (m : ℕ). (b ∷ take n (d ∷ bs)) ∷ lines_in (drop m (b ∷ d ∷ bs))) (more_one n)
+abbrev line_size : List ℕ → ℕ
+line_size text = position_or_len is_end text
+
+line_by : (t : Bool) (b : ℕ) (bs : List ℕ) → (0 < length bs → lines_in bs ≡ take (line_size bs) bs ∷ lines_in (drop (line_size bs + 1) bs)) →
+    cond t ([] ∷ lines_in bs) (longer b (lines_in bs)) ≡ take (cond (not t) (1 + line_size bs) 0) (b ∷ bs) ∷ lines_in (drop (cond (not t) (1 + line_size bs) 0 + 1) (b ∷ bs))
+line_by true b bs more = refl
+line_by false b [] more = refl
+line_by false b (d ∷ ds) more =
+    let k : ℕ = line_size (d ∷ ds) in
+    let e : 1 + k ≡ suc k = omega arith in
+    let f : suc k + 1 ≡ suc (k + 1) = omega arith in
+    let all = ap (longer b) (more (omega arith)) in
+    ap (longer b) (more (omega arith)) ∙ ap (λ (n : ℕ). (b ∷ take k (d ∷ ds)) ∷ lines_in (drop n (b ∷ d ∷ ds))) (sym f) ∙ ap (λ (n : ℕ). take n (b ∷ d ∷ ds) ∷ lines_in (drop (n + 1) (b ∷ d ∷ ds))) (sym e)
+
+first_line : (text : List ℕ) → 0 < length text → lines_in text ≡ take (line_size text) text ∷ lines_in (drop (line_size text + 1) text)
+first_line [] some = absurd (omega arith)
+first_line (b ∷ bs) some = line_by (is_end b) b bs (first_line bs)
+
+at_some : (t : Bool) (n k : ℕ) → Some k ≡ cond t (Some n) None → n ≡ k
+at_some true n k e = cc
+at_some false n k e = impossible (cc)
+
+at_none : (t : Bool) (n : ℕ) → None ≡ cond t (Some n) None → t ≡ false
+at_none true n e = impossible (cc)
+at_none false n e = refl
+
+pub line_cut_off : (text : List ℕ) (k : ℕ) → Some k ≡ position is_end text → 0 < length text → lines_in text ≡ take k text ∷ lines_in (drop (k + 1) text)
+line_cut_off text k e some =
+    subst (λ (n : ℕ). lines_in text ≡ take n text ∷ lines_in (drop (n + 1) text)) (at_some (ltb (line_size text) (length text)) (line_size text) k e) (first_line text some)
+
+pub last_line : (text : List ℕ) → None ≡ position is_end text → 0 < length text → lines_in text ≡ text ∷ []
+last_line text e some =
+    let l = ltb-false (line_size text) (length text) (at_none (ltb (line_size text) (length text)) (line_size text) e) in
+    first_line text some ∙ ap (λ (line : List ℕ). line ∷ lines_in (drop (line_size text + 1) text)) (take_all (line_size text) text l)
+    ∙ ap (λ (more : List ℕ). text ∷ lines_in more) (drop_all (line_size text + 1) text (omega arith))
 
 -- the end of the lines
 pub file_ended : (place line : ℕ) (out rest : List ℕ) (o : Option Refusal) → place ≤ length out → length rest ≤ 0 → finish_refusal place ≡ o →
@@ -107,39 +139,24 @@ assembled_start text out place room w =
     let at = w.reached in
     record { room = room; inside = omega arith; lines = omega arith; file = ap (λ (file : List ℕ). compose_from 1 file (lines_in text)) (sym w.bytes) }
 
--- what is known of the length of the first line
-pub record Cut (rest : List ℕ) (n : ℕ) : Type 0 where
-  pub inside : n ≤ length rest
-  pub before : (k : ℕ) → k < n → get_or rest k 0 ≡ 10 → ⊥
-  pub found : n < length rest → get_or rest n 0 ≡ 10
-
-at_line : (text out rest : List ℕ) (place line n : ℕ) → Assembled text out rest place line → 0 < length rest → Cut rest n →
-    composed text ≡ compose_from (line + 1) (take place out) (take n rest ∷ lines_in (drop (n + 1) rest))
-at_line text out rest place line n a some cut =
-    a.file ∙ ap (compose_from (line + 1) (take place out)) (first_line rest n some cut.inside cut.before cut.found)
-
-pub assembled_more : (text out out' rest part : List ℕ) (place place' line n : ℕ) → Assembled text out rest place line → 0 < length rest → Cut rest n → part ≡ take n rest →
-    length out' ≡ length out → place' ≤ length out' →
-    ((k : ℕ) (texts : List (List ℕ)) → compose_from k (take place out) (part ∷ texts) ≡ compose_from (k + 1) (take place' out') texts) →
-    Assembled text out' (drop (n + 1) rest) place' (line + 1)
-assembled_more text out out' rest part place place' line n a some cut e kept inside put =
-    let ro = a.room in let li = a.lines in let ci = cut.inside in
+pub assembled_more : (text out out' rest line behind : List ℕ) (place place' count : ℕ) → Assembled text out rest place count → lines_in rest ≡ line ∷ lines_in behind →
+    length behind < length rest → length out' ≡ length out → place' ≤ length out' →
+    ((k : ℕ) (texts : List (List ℕ)) → compose_from k (take place out) (line ∷ texts) ≡ compose_from (k + 1) (take place' out') texts) →
+    Assembled text out' behind place' (count + 1)
+assembled_more text out out' rest line behind place place' count a cut shorter kept inside put =
+    let ro = a.room in let li = a.lines in
     record {
       room = omega arith;
       inside = inside;
-      lines = omega (arith, length-drop (n + 1) rest);
-      file = at_line text out rest place line n a some cut
-          ∙ ap (λ (p : List ℕ). compose_from (line + 1) (take place out) (p ∷ lines_in (drop (n + 1) rest))) (sym e)
-          ∙ put (line + 1) (lines_in (drop (n + 1) rest));
+      lines = omega arith;
+      file = a.file ∙ ap (compose_from (count + 1) (take place out)) cut ∙ put (count + 1) (lines_in behind);
     }
 
-pub assembled_fault : (text out rest part : List ℕ) (place line n : ℕ) (reason : Reason) → Assembled text out rest place line → 0 < length rest → Cut rest n → part ≡ take n rest →
-    ((k : ℕ) (texts : List (List ℕ)) → compose_from k (take place out) (part ∷ texts) ≡ Err (record { line = k; reason = reason })) →
-    composed text ≡ Err (record { line = line + 1; reason = reason })
-assembled_fault text out rest part place line n reason a some cut e put =
-    at_line text out rest place line n a some cut
-    ∙ ap (λ (p : List ℕ). compose_from (line + 1) (take place out) (p ∷ lines_in (drop (n + 1) rest))) (sym e)
-    ∙ put (line + 1) (lines_in (drop (n + 1) rest))
+pub assembled_fault : (text out rest line behind : List ℕ) (place count : ℕ) (reason : Reason) → Assembled text out rest place count → lines_in rest ≡ line ∷ lines_in behind →
+    ((k : ℕ) (texts : List (List ℕ)) → compose_from k (take place out) (line ∷ texts) ≡ Err (record { line = k; reason = reason })) →
+    composed text ≡ Err (record { line = count + 1; reason = reason })
+assembled_fault text out rest line behind place count reason a cut put =
+    a.file ∙ ap (compose_from (count + 1) (take place out)) cut ∙ put (count + 1) (lines_in behind)
 
 pub assembled_end : (text out rest : List ℕ) (place line : ℕ) (o : Option Refusal) → Assembled text out rest place line → length rest ≤ 0 → finish_refusal place ≡ o → composed text ≡ ended o (take place out)
 assembled_end text out rest place line o a none e = a.file ∙ file_ended place (line + 1) out rest o a.inside none e

@@ -10,8 +10,26 @@ use Rattle.std.specs.Str.{all_ascii_digits}
 use Rattle.unit_file.specs.Records.{Item, header, unit, cost, note, unprintable, bytes_of}
 use Rattle.unit_file.specs.Writing.{bad_note_bytes}
 use Rattle.unit_text.specs.Lines.{text_of}
-use Rattle.unit_line.specs.Parsing.{is_digit, on_digits, number_in, item_in}
-use Rattle.unit_line.proofs.Scanning.{header_fields, unit_fields, cost_fields}
+use Rattle.scanning.specs.Scanning.{is_digit, on_digits, number_in, field_in, at_end}
+use Rattle.unit_line.specs.Parsing.{header_in, unit_in, cost_in, item_in}
+
+-- fields one behind the other
+cost_fields : (t line subzone day hour amount : List ℕ) (n₁ n₂ n₃ n₄ n₅ : ℕ) →
+    Some (n₁, line) ≡ field_in (codes "line ") 255 t → Some (n₂, subzone) ≡ field_in (codes " subzone ") 255 line → Some (n₃, day) ≡ field_in (codes " day ") 255 subzone →
+    Some (n₄, hour) ≡ field_in (codes " hour ") 255 day → Some (n₅, amount) ≡ field_in (codes " amount ") 4294967295 hour →
+    cost_in t ≡ at_end amount (cost (record { line = n₁; subzone = n₂; day = n₃; hour = n₄; amount = n₅ }))
+cost_fields t line subzone day hour amount n₁ n₂ n₃ n₄ n₅ e₁ e₂ e₃ e₄ e₅ = rw (sym e₁, sym e₂, sym e₃, sym e₄, sym e₅)
+
+unit_fields : (t customer day hour subzone usage quantity : List ℕ) (n₁ n₂ n₃ n₄ n₅ n₆ : ℕ) →
+    Some (n₁, customer) ≡ field_in (codes "customer ") 65535 t → Some (n₂, day) ≡ field_in (codes " day ") 255 customer → Some (n₃, hour) ≡ field_in (codes " hour ") 255 day →
+    Some (n₄, subzone) ≡ field_in (codes " subzone ") 255 hour → Some (n₅, usage) ≡ field_in (codes " use ") 255 subzone → Some (n₆, quantity) ≡ field_in (codes " quantity ") 4294967295 usage →
+    unit_in t ≡ at_end quantity (unit (record { customer = n₁; day = n₂; hour = n₃; subzone = n₄; usage = n₅; quantity = n₆ }))
+unit_fields t customer day hour subzone usage quantity n₁ n₂ n₃ n₄ n₅ n₆ e₁ e₂ e₃ e₄ e₅ e₆ = rw (sym e₁, sym e₂, sym e₃, sym e₄, sym e₅, sym e₆)
+
+header_fields : (t customers days subzones : List ℕ) (n₁ n₂ n₃ : ℕ) →
+    Some (n₁, customers) ≡ field_in (codes "customers ") 65535 t → Some (n₂, days) ≡ field_in (codes " days ") 255 customers → Some (n₃, subzones) ≡ field_in (codes " subzones ") 255 days →
+    header_in t ≡ at_end subzones (header (record { customers = n₁; days = n₂; subzones = n₃ }))
+header_fields t customers days subzones n₁ n₂ n₃ e₁ e₂ e₃ = rw (sym e₁, sym e₂, sym e₃)
 
 -- the number that digits write, behind a number so far
 abbrev read_on : ℕ → List ℕ → ℕ

@@ -1,5 +1,5 @@
 -- What is composed of a listing is the file that was listed.
-use Rattle.std.proofs.Common.{◌≡◌, ℕ, ◌+◌, ◌-◌, ◌<◌, ◌≤◌, Bool, true, false, cond, not, eqb, List, [], ◌∷◌, ◌++◌, length, get_or, Some, None, Ok, Option, Result, sym, refl, ap, ◌∙◌, subst, append_assoc, arith, w8, Fits}
+use Rattle.std.proofs.Common.{◌≡◌, ℕ, ◌+◌, ◌-◌, ◌<◌, ◌≤◌, Bool, true, false, cond, not, eqb, List, [], ◌∷◌, ◌++◌, length, get_or, Some, None, Ok, Option, Result, sym, refl, ap, ◌∙◌, subst, append_assoc, arith, w8, Fits, Vec, Global}
 use Rattle.std.proofs.ByRecursion.{All-from_get_or}
 use Rattle.std.proofs.lemmas.List.{append-nil, length-append}
 use Rattle.std.proofs.lemmas.Bool.{and_parts, not-true, or_from, le-ltb, lt-leb}
@@ -13,11 +13,11 @@ use Rattle.unit_file.specs.Laws.{Rewritten}
 use Rattle.unit_file.specs.Reading.{misplaced, Contents, contents_of}
 use Rattle.unit_file.specs.Writing.{bad_note_length, bad_note_bytes, put_refusal, LawfulFrom}
 use Rattle.unit_file.proofs.RoundTrip.{rewritten}
-use Rattle.unit_text.specs.declared.composing.Fault.{Fault}
 use Rattle.unit_text.specs.declared.composing.Reason.{Reason}
+use Rattle.unit_text.specs.declared.composing.ComposeError.{ComposeError}
 use Rattle.unit_text.specs.Lines.{text_of, lines_of, fault_line, listed}
 use Rattle.unit_line.specs.Parsing.{item_in}
-use Rattle.unit_text.specs.Composing.{longer, lines_in, refused_or, added_by, go_on, ended, compose_from, composed, Inverse, Restored}
+use Rattle.unit_text.specs.Composing.{longer, lines_in, refused_or, added_by, go_on, ended, compose_from, composed, Files, Inverse, Restored}
 use Rattle.unit_text.proofs.LinesBack.{Widths, widths, plain, text_plain, item_back}
 
 impossible : {X : Type 0} → ◌≡◌ {A = ℕ} 0 1 → X
@@ -83,8 +83,8 @@ returns_file bytes small items h =
     ∙ compose_lines items 1 (1 ∷ []) (omega arith) (omega arith) (omega arith) law.each (all_widths items a.1)
     ∙ ap Ok back
 
-pub restores : (text : List ℕ) (made : Result (List ℕ) Fault) → made ≡ composed text → Restored text made
-restores text made e bytes items small h same = e ∙ ap composed same ∙ returns_file bytes small items h
+pub restores : (text : List ℕ) (answer : Result (Vec ℕ Global) ComposeError) → Files answer (composed text) → Restored text answer
+restores text answer e bytes items small h same = subst (Files answer) (ap composed same ∙ returns_file bytes small items h) e
 
 -- the bytes at hand, each of which fits a byte
 all_bytes : (bs : List ℕ) → ((i : ℕ) → Fits w8 (get_or bs i 0)) → AllByRecursion (λ b. b < 256) bs

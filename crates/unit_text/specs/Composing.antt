@@ -5,10 +5,10 @@
 --   ended                      the file as its lines end; a missing header is told at line 1
 --   compose_from               the file of lines behind what is written already, the next line's number given
 --   composed                   the file of a text, or the first fault
---   filed                      what a call answered, the file by its bytes
+--   Files                      a call answers what was made, the file by its bytes, if memory does not run out
 --   Inverse                    of a file's bytes: if it is accepted, what is composed of its listing is the file
 --   Restored                   of a text and what was made of it: if the text is the listing of an accepted
---                              file, then that file was made
+--                              file, then that file is the answer, if memory does not run out
 --   reason_words, fault_words  a reason and a fault as a user reads them
 use Rattle.std.specs.Prelude.{◌≡◌, ℕ, ◌+◌, ◌<◌, cond, List, [], ◌∷◌, ◌++◌, length, Some, None, Ok, Err, vec_items, codes, decimal, Option, Result, Vec, ◌==◌}
 use Rattle.std.specs.List.{AllByRecursion}
@@ -20,6 +20,8 @@ use Rattle.unit_file.specs.Reading.{records_of}
 use Rattle.unit_file.specs.Records.{Item, bytes_of}
 use Rattle.unit_file.specs.Writing.{put_refusal, finish_refusal}
 use Rattle.unit_text.specs.declared.composing.Fault.{Fault}
+use Rattle.unit_text.specs.declared.composing.ComposeError.{ComposeError}
+use Rattle.unit_text.specs.declared.composing.ComposeError.TheVariants.{Fault as AtFault, OutOfMemory}
 use Rattle.unit_text.specs.declared.composing.Reason.{Reason}
 use Rattle.unit_text.specs.declared.composing.Reason.TheVariants.{NotARecord, Refused}
 use Rattle.unit_text.specs.Lines.{listing}
@@ -56,15 +58,16 @@ compose_from line file (text ∷ texts) = go_on line (added_by file (item_in tex
 abbrev pub composed : List ℕ → Result (List ℕ) Fault
 composed text = compose_from 1 (1 ∷ []) (lines_in text)
 
-abbrev pub filed : Result (Vec ℕ Global) Fault → Result (List ℕ) Fault
-filed (Ok file) = Ok (vec_items file)
-filed (Err fault) = Err fault
+abbrev pub Files : Result (Vec ℕ Global) ComposeError → Result (List ℕ) Fault → Type 0
+Files (Ok file) made = Ok (vec_items file) ≡ made
+Files (Err (AtFault fault)) made = Err fault ≡ made
+Files (Err (OutOfMemory error)) made = Unit {0}
 
 abbrev pub Inverse : List ℕ → Type 0
 Inverse bytes = (items : List Item) → records_of bytes ≡ Ok items → composed (listing bytes) ≡ Ok bytes
 
-abbrev pub Restored : List ℕ → Result (List ℕ) Fault → Type 0
-Restored text made = (bytes : List ℕ) (items : List Item) → AllByRecursion (λ b. b < 256) bytes → records_of bytes ≡ Ok items → text ≡ listing bytes → made ≡ Ok bytes
+abbrev pub Restored : List ℕ → Result (Vec ℕ Global) ComposeError → Type 0
+Restored text answer = (bytes : List ℕ) (items : List Item) → AllByRecursion (λ b. b < 256) bytes → records_of bytes ≡ Ok items → text ≡ listing bytes → Files answer (Ok bytes)
 
 abbrev pub reason_words : Reason → List ℕ
 reason_words NotARecord = codes "not the line of a record, or a number is too large"

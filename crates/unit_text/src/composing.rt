@@ -1,8 +1,10 @@
 // A unit file from its text form.
-ghost use Rattle.std.specs.Prelude.{◌≡◌, ℕ, ◌+◌, ◌-◌, ◌<◌, ◌≤◌, List, ◌∷◌, length, take, drop, IfOk, Some, Ok, Err, MatchResult, ◌≢◌, slice_index};
+ghost use Rattle.std.specs.Prelude.{◌≡◌, ℕ, ◌+◌, ◌-◌, ◌<◌, ◌≤◌, List, ◌∷◌, length, take, drop, IfOk, Some, Ok, Err, MatchResult, ◌≢◌, slice_index, position, ◌==◌};
 ghost use Rattle.tariff.specs.Limits.{most_file_bytes};
 ghost use Rattle.unit_file.specs.Laws.{ReadBack};
-ghost use Rattle.unit_text.specs.Composing.{compose_from, composed, filed, Restored, reason_words, fault_words};
+ghost use Rattle.unit_text.specs.Composing.{lines_in, compose_from, composed, Files, Restored, reason_words, fault_words};
+ghost use Rattle.unit_text.specs.declared.composing.ComposeError.TheVariants.{Fault as AtFault, OutOfMemory};
+ghost use Rattle.unit_text.specs.declared.composing.Reason.TheVariants.{Refused};
 
 use std::alloc::{AllocError, Global};
 use std::fmt;
@@ -27,28 +29,65 @@ pub struct Fault {
     pub reason: Reason,
 }
 
-// How many bytes stand before the first line end, or before the end of the text.
-fn line_length(text: &[u8]) -> usize
-    ensures inside { result ≤ length text.now }
-    ensures before { (k : ℕ) → k < result → slice_index text.now k ≢ 10 }
-    ensures found { result < length text.now → slice_index text.now result ≡ 10 }
-{
-    for (i, b) in text.iter().enumerate() {
-        if *b == 10 {
-            return i;
-        }
-    }
-    text.len()
+// Why no file is made of a text.
+#[derive(Debug, Drop)]
+pub enum ComposeError {
+    Fault(Fault),
+    OutOfMemory(AllocError),
 }
 
-// What stands behind the first line.
-fn behind_line<'a>(text: &'a [u8], len: usize) -> &'a [u8]
-    ensures { result.now ≡ drop (len + 1) text.now }
-{
-    if len >= text.len() {
-        return &text[text.len()..text.len()];
+impl From<Fault> for ComposeError {
+    ghost from_gives = { λ fault e. e ≡ AtFault fault };
+
+    fn from(fault: Fault) -> ComposeError {
+        ComposeError::Fault(fault)
     }
-    &text[len + 1..text.len()]
+}
+
+impl From<AllocError> for ComposeError {
+    ghost from_gives = { λ error e. e ≡ OutOfMemory error };
+
+    fn from(error: AllocError) -> ComposeError {
+        ComposeError::OutOfMemory(error)
+    }
+}
+
+impl From<Refusal> for Reason {
+    ghost from_gives = { λ refusal reason. reason ≡ Refused refusal };
+
+    fn from(refusal: Refusal) -> Reason {
+        Reason::Refused(refusal)
+    }
+}
+
+// A refusal that no line of its own has brought about is told at line 1.
+impl From<Refusal> for Fault {
+    ghost from_gives = { λ refusal fault. fault ≡ record { line = 1; reason = Refused refusal } };
+
+    fn from(refusal: Refusal) -> Fault {
+        Fault {
+            line: 1,
+            reason: Reason::Refused(refusal),
+        }
+    }
+}
+
+// Where the first line ends, if it has its line end.
+fn line_end(text: &[u8]) -> Option<usize>
+    ensures { result ≡ position (λ b. b == 10) text.now }
+{
+    text.iter().position(|b| *b == b'\n')
+}
+
+// The first line of a text, and what stands behind its line end; the last line may lack it.
+fn cut_line<'a>(text: &'a [u8]) -> (&'a [u8], &'a [u8])
+    ensures lines { 0 < length text.now → lines_in text.now ≡ result.0.now ∷ lines_in result.1.now }
+    ensures shorter { 0 < length text.now → length result.1.now < length text.now }
+{
+    match line_end(text) {
+        Some(end) => (&text[..end], &text[end + 1..]),
+        None => (text, &[]),
+    }
 }
 
 // Puts the record of a line behind what is written.
@@ -61,13 +100,8 @@ fn put_line(writer: &mut Writer, out: &mut [u8], text: &[u8]) -> Result<(), Reas
         (λ reason. compose_from line (take writer.old.place out.old) (text.now ∷ texts)
         ≡ Err (record { line = line; reason = reason })) }
 {
-    let Some(record) = parse_line(text) else {
-        return Err(Reason::NotARecord);
-    };
-    match writer.put(out, record) {
-        Ok(()) => Ok(()),
-        Err(refusal) => Err(Reason::Refused(refusal)),
-    }
+    let record = parse_line(text).ok_or(Reason::NotARecord)?;
+    Ok(writer.put(out, record)?)
 }
 
 // Makes the file in a buffer of the most bytes of a file: how many of them it takes.
@@ -75,46 +109,30 @@ fn compose_into(text: &[u8], out: &mut [u8]) -> Result<usize, Fault>
     requires { length out.old ≡ most_file_bytes }
     ensures { MatchResult result (λ n. (n ≤ length out.new) × (composed text.now ≡ Ok (take n out.new))) (λ fault. composed text.now ≡ Err fault) }
 {
-    let mut writer = match Writer::new(out) {
-        Ok(writer) => writer,
-        Err(refusal) => return Err(Fault {
-            line: 1,
-            reason: Reason::Refused(refusal),
-        }),
-    };
+    let mut writer = Writer::new(out)?;
     let mut rest = text;
     let mut line = 0;
-    while rest.len() > 0 {
+    while !rest.is_empty() {
         line += 1;
-        let len = line_length(rest);
-        if let Err(reason) = put_line(&mut writer, out, &rest[0..len]) {
+        let (first, behind) = cut_line(rest);
+        // tried: `.map_err(|reason| Fault { line, reason })?`, whose proof did not close
+        if let Err(reason) = put_line(&mut writer, out, first) {
             return Err(Fault { line, reason });
         }
-        rest = behind_line(rest, len);
+        rest = behind;
     }
-    match writer.finish(out) {
-        Ok(n) => Ok(n),
-        Err(refusal) => Err(Fault {
-            line: 1,
-            reason: Reason::Refused(refusal),
-        }),
-    }
+    Ok(writer.finish(out)?)
 }
 
 // The file of a text, or its first fault.
-pub fn compose(heap: Global, text: &[u8]) -> Result<Result<Vec<u8>, Fault>, AllocError>
-    ensures file { IfOk result (λ answer. filed answer ≡ composed text.now) }
-    ensures restored { IfOk result (λ answer. Restored text.now (filed answer)) }
+pub fn compose(heap: Global, text: &[u8]) -> Result<Vec<u8>, ComposeError>
+    ensures file { Files result (composed text.now) }
+    ensures restored { Restored text.now result }
     ensures read_back { ReadBack }
 {
     let mut buffer = [0; MOST_FILE_BYTES];
-    match compose_into(text, &mut buffer) {
-        Ok(n) => {
-            let file = Vec::from_slice(heap, &buffer[0..n])?;
-            Ok(Ok(file))
-        }
-        Err(fault) => Ok(Err(fault)),
-    }
+    let size = compose_into(text, &mut buffer)?;
+    Ok(Vec::from_slice(heap, &buffer[..size])?)
 }
 
 impl fmt::Display for Reason {
@@ -136,5 +154,14 @@ impl fmt::Display for Fault {
         let line = self.line;
         let reason = self.reason;
         write!(f, "line {line}: {reason}")
+    }
+}
+
+impl fmt::Display for ComposeError {
+    fn fmt<W: fmt::Write>(&self, f: &mut fmt::Formatter<W>) -> fmt::Result {
+        match self {
+            ComposeError::Fault(fault) => write!(f, "{fault}"),
+            ComposeError::OutOfMemory(error) => write!(f, "{error}"),
+        }
     }
 }

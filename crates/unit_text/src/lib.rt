@@ -5,5 +5,5 @@
 pub mod composing;
 pub mod listing;
 
-pub use composing::{Fault, Reason, compose};
+pub use composing::{ComposeError, Fault, Reason, compose};
 pub use listing::{Listing, list};

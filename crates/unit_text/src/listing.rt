@@ -5,6 +5,8 @@ ghost use Rattle.unit_file.specs.Reading.{contents_of};
 ghost use Rattle.unit_file.specs.Records.{item_of};
 ghost use Rattle.unit_text.specs.Composing.{Inverse};
 ghost use Rattle.unit_text.specs.Lines.{header_text, unit_text, cost_text, text_of, line_of, lines_of, fault_line, listing};
+ghost use Rattle.unit_text.specs.Listing.{Pushed};
+ghost use Rattle.unit_text.specs.declared.listing.Ending.TheVariants.{Refused, OutOfMemory};
 
 use std::alloc::{AllocError, Global};
 use tariff::{CostRow, Refusal, Sizes, UnitRow};
@@ -94,28 +96,38 @@ fn push_fault(text: &mut Vec<u8>, heap: Global, refusal: Refusal) -> Result<(), 
     push_string(text, format!(in heap; "{refusal}\n")?)
 }
 
-// The lines of a file's records, and the refusal that ends them, if one does.
-fn push_records(
-    text: &mut Vec<u8>,
-    heap: Global,
-    bytes: &[u8],
-) -> Result<Option<Refusal>, AllocError>
-    ensures { IfOk result (λ o. (text.new.items ≡ text.old.items ++ lines_of (contents_of bytes.now).items) × (o ≡ (contents_of bytes.now).refusal)) }
+// What ends a listing before the file does.
+#[derive(Drop)]
+enum Ending {
+    Refused(Refusal),
+    OutOfMemory(AllocError),
+}
+
+impl From<Refusal> for Ending {
+    ghost from_gives = { λ refusal ending. ending ≡ Refused refusal };
+
+    fn from(refusal: Refusal) -> Ending {
+        Ending::Refused(refusal)
+    }
+}
+
+impl From<AllocError> for Ending {
+    ghost from_gives = { λ error ending. ending ≡ OutOfMemory error };
+
+    fn from(error: AllocError) -> Ending {
+        Ending::OutOfMemory(error)
+    }
+}
+
+// The lines of a file's records, up to the refusal that ends them, if one does.
+fn push_records(text: &mut Vec<u8>, heap: Global, bytes: &[u8]) -> Result<(), Ending>
+    ensures { Pushed text.old.items text.new.items (contents_of bytes.now) result }
 {
-    let mut reader = match Reader::new(bytes) {
-        Ok(reader) => reader,
-        Err(refusal) => return Ok(Some(refusal)),
-    };
-    loop {
-        let found = match reader.next_in_order() {
-            Ok(found) => found,
-            Err(refusal) => return Ok(Some(refusal)),
-        };
-        let Some(record) = found else {
-            return Ok(None);
-        };
+    let mut reader = Reader::new(bytes)?;
+    while let Some(record) = reader.next_in_order()? {
         push_line(text, heap, record)?;
     }
+    Ok(())
 }
 
 // The text of a file. A fault ends it with the refusal's number, reason and byte place.
@@ -126,9 +138,18 @@ pub fn list(heap: Global, bytes: &[u8]) -> Result<Listing, AllocError>
     ensures inverse { Inverse bytes.now }
 {
     let mut text = Vec::new(heap);
-    let refusal = push_records(&mut text, heap, bytes)?;
-    if let Some(refusal) = refusal {
-        push_fault(&mut text, heap, refusal)?;
+    match push_records(&mut text, heap, bytes) {
+        Ok(()) => Ok(Listing {
+            text,
+            refusal: None,
+        }),
+        Err(Ending::Refused(refusal)) => {
+            push_fault(&mut text, heap, refusal)?;
+            Ok(Listing {
+                text,
+                refusal: Some(refusal),
+            })
+        }
+        Err(Ending::OutOfMemory(error)) => Err(error),
     }
-    Ok(Listing { text, refusal })
 }

@@ -1,32 +1,21 @@
-use Rattle.std.proofs.Common.{ℕ, ◌+◌, ◌-◌, ◌*◌, Bool, cond, get_or, drop, None, sym, ap, ◌∙◌, arith}
-use Rattle.std.proofs.lemmas.Bool.{lt-ltb, le-ltb}
-use Rattle.scanning.specs.Scanning.{on_digits}
-use Rattle.scanning.proofs.Numbers.{number_begins, digits_end, digits_more, digits_all}
+use Rattle.std.proofs.Common.{Some, None}
+use Rattle.std.proofs.lemmas.List.Sums.{prefix_len-le-length}
+use Rattle.scanning.specs.Scanning.{is_digit}
+use Rattle.scanning.proofs.Numbers.{front_digits, number_is}
 use Rattle.scanning.proofs.number.Goals as goal
 
-pub returns-then-not-is_digit-2 : goal.returns-then-not-is_digit-2
-returns-then-not-is_digit-2 c = record {
-  value = digits_end c.args.most c.loop-i.value c.args.text.now c.loop-i.i c.loop-i-test.true c.if-not-is_digit-2.ensures c.loop-i.invariant.1 (omega arith) c.if-not-is_digit.ensures;
-  bound = c.loop-i.invariant.0;
-}
+pub split_at-requires : goal.split_at-requires
+split_at-requires c = rw c.digit_count.ensures (prefix_len-le-length is_digit c.args.text.now)
 
-pub returns-then-longer-most : goal.returns-then-longer-most
-returns-then-longer-most c =
-    let n : ℕ = c.loop-i.value * 10 + (get_or c.args.text.now c.loop-i.i 0 - 48) in
-    let more = digits_more c.args.most c.loop-i.value c.args.text.now c.loop-i.i c.loop-i-test.true c.if-not-is_digit-2.ensures c.loop-i.invariant.1 in
-    record {
-      value = sym (number_begins c.args.most c.args.text.now (omega arith) c.if-not-is_digit.ensures ∙ more ∙ ap (λ (t : Bool). cond t None (on_digits c.args.most n (drop (c.loop-i.i + 1) c.args.text.now))) (lt-ltb c.args.most n c.if-longer-most.true));
-      bound = tt;
-    }
+pub value_of-requires : goal.value_of-requires
+value_of-requires c = rw (c.split_at.ensures.front, c.digit_count.ensures) (front_digits c.args.text.now)
 
-pub loop-i-preserved : goal.loop-i-preserved
-loop-i-preserved c =
-    let n : ℕ = c.loop-i.value * 10 + (get_or c.args.text.now c.loop-i.i 0 - 48) in
-    let more = digits_more c.args.most c.loop-i.value c.args.text.now c.loop-i.i c.loop-i-test.true c.if-not-is_digit-2.ensures c.loop-i.invariant.1 in
-    (c.if-longer-most.false, more ∙ ap (λ (t : Bool). cond t None (on_digits c.args.most n (drop (c.loop-i.i + 1) c.args.text.now))) (le-ltb c.args.most n c.if-longer-most.false))
+pub returns-in_err-value_of-clause-value : goal.returns-in_err-value_of-clause-value
+returns-in_err-value_of-clause-value c =
+    rw c.from_residual.ensures (number_is c.args.most c.digit_count.result c.args.text.now c.split_at.result.0.now c.split_at.result.1.now None
+    c.digit_count.ensures c.split_at.ensures.front c.split_at.ensures.back c.in_err-value_of.ensures.value)
 
-pub returns : goal.returns
-returns c = record {
-  value = digits_all c.args.most c.loop-i.value c.args.text.now c.loop-i.i c.loop-i-test.false c.loop-i.invariant.1 (omega arith) c.if-not-is_digit.ensures;
-  bound = c.loop-i.invariant.0;
-}
+pub returns-clause-value : goal.returns-clause-value
+returns-clause-value c =
+    number_is c.args.most c.digit_count.result c.args.text.now c.split_at.result.0.now c.split_at.result.1.now (Some c.in_ok-value_of.field-0)
+    c.digit_count.ensures c.split_at.ensures.front c.split_at.ensures.back c.in_ok-value_of.ensures.value

@@ -1,18 +1,19 @@
-use Rattle.std.proofs.Common.{◌≡◌, Ok, Err, vec_items, rules}
+use Rattle.std.proofs.Common.{Ok, sym, ap, ◌∙◌, rules}
 use Rattle.unit_file.proofs.RoundTrip.{read_back}
-use Rattle.unit_text.specs.Composing.{composed}
 use Rattle.unit_text.proofs.Returning.{restores}
 use Rattle.unit_text.proofs.composing.compose.Goals as goal
 
-pub returns-in_ok-file-in-Ok : goal.returns-in_ok-file-in-Ok
-returns-in_ok-file-in-Ok c =
-    let e : Ok (vec_items c.in_ok-file-in-Ok.file) ≡ composed c.args.text.now = search rules in
-    record { file = e; restored = restores c.args.text.now (Ok (vec_items c.in_ok-file-in-Ok.file)) e; read_back = read_back }
+pub returns-in_err-size-clause-restored : goal.returns-in_err-size-clause-restored
+returns-in_err-size-clause-restored c = restores c.args.text.now c.from_residual.result (search rules)
 
-pub returns-in-Err : goal.returns-in-Err
-returns-in-Err c =
-    let e : Err c.in-Err.fault ≡ composed c.args.text.now = search rules in
-    record { file = e; restored = restores c.args.text.now (Err c.in-Err.fault) e; read_back = read_back }
+pub returns-in_err-size-clause-read_back : goal.returns-in_err-size-clause-read_back
+returns-in_err-size-clause-read_back c = read_back
 
-pub returns-in_err-file-in-Ok : goal.returns-in_err-file-in-Ok
-returns-in_err-file-in-Ok c = record { file = search rules; restored = search rules; read_back = read_back }
+pub returns-in_err-from_slice-clause-read_back : goal.returns-in_err-from_slice-clause-read_back
+returns-in_err-from_slice-clause-read_back c = read_back
+
+pub returns-clause-restored : goal.returns-clause-restored
+returns-clause-restored c = restores c.args.text.now (Ok c.in_ok-from_slice.field-0) (ap Ok c.in_ok-from_slice.ensures.items ∙ sym c.in_ok-size.ensures.1)
+
+pub returns-clause-read_back : goal.returns-clause-read_back
+returns-clause-read_back c = read_back

@@ -1,7 +1,7 @@
 use Rattle.std.proofs.Common.{arith}
 use Rattle.std.proofs.lemmas.Bool.{le-leb, lt-leb}
 use Rattle.unit_file.proofs.RoundTrip.{read_back}
-use Rattle.unit_file.proofs.Pasting.{written_read}
+use Rattle.unit_file.proofs.Writes.{written_read}
 use Rattle.unit_file.proofs.writer.Writer.finish.Goals as goal
 
 pub returns-then-self-le1 : goal.returns-then-self-le1

@@ -1,8 +1,13 @@
+use Rattle.std.proofs.Common.{length}
 use Rattle.unit_file.specs.Records.{item_of}
-use Rattle.unit_file.proofs.Pasting.{put_done}
+use Rattle.unit_file.proofs.Writes.{refused_by_file, put_done}
 use Rattle.unit_file.proofs.writer.Writer.put.Goals as goal
 
-pub returns : goal.returns
-returns c =
-    let d = put_done c.args.self.now.place c.length_of.result c.args.out.now c.paste_record.new.out (item_of c.args.record) c.in_default.ensures c.paste_record.ensures c.length_of.ensures in
-    record { answers = d.0; out = d.1; place = d.2; written = d.3 }
+pub returns-in_err-check_record-clause-out : goal.returns-in_err-check_record-clause-out
+returns-in_err-check_record-clause-out c = rw (refused_by_file c.args.self.now.place (length c.args.out.now) (item_of c.args.record) c.in_err-check_record.field-0.0 c.in_err-check_record.ensures)
+
+pub returns-in_err-check_record-clause-place : goal.returns-in_err-check_record-clause-place
+returns-in_err-check_record-clause-place c = rw (refused_by_file c.args.self.now.place (length c.args.out.now) (item_of c.args.record) c.in_err-check_record.field-0.0 c.in_err-check_record.ensures)
+
+pub returns-clause-written : goal.returns-clause-written
+returns-clause-written c = put_done c.args.self.now.place c.in_ok-self.field-0 c.args.out.now c.put_record.new.out (item_of c.args.record) c.in_ok-check_record.ensures c.in_ok-self.ensures.answers c.in_ok-self.ensures.out
