@@ -1,5 +1,5 @@
 -- From what the calls of a book say to what a journal answers. Assumes nothing.
-use Rattle.std.proofs.Common.{◌≡◌, ℕ, ◌+◌, Bool, true, false, cond, List, [], length, Some, None, Ok, Err, Option, Result, sym, refl, ap, ◌∙◌, subst, arith}
+use Rattle.std.proofs.Common.{◌≡◌, ℕ, ◌+◌, Bool, true, false, cond, List, [], length, Some, None, Ok, Err, Option, Result, MatchResult, sym, refl, ap, ◌∙◌, subst, arith}
 use Rattle.std.specs.declared.alloc.AllocError.{AllocError}
 use Rattle.tariff.specs.declared.refusal.Refusal.{Refusal}
 use Rattle.tariff.specs.declared.rows.CostRow.{CostRow}
@@ -10,27 +10,22 @@ use Rattle.buffer.specs.Putting.{pasted, put_refusal}
 use Rattle.bill_rules.specs.Bill.{Figures}
 use Rattle.book_rules.specs.Machine.{Book}
 use Rattle.book_rules.specs.Run.{Call, not_offered, Outcome, told_bill, step}
-use Rattle.book.specs.declared.states.Pass.{Pass as Token}
+use Rattle.book.specs.Told.{told, told_row}
 use Rattle.line_rows.specs.Rows.{line_text, text_of, text_refusal, text_in}
 use Rattle.journal_line.specs.declared.calls.Command.{Command}
 use Rattle.journal_line.specs.declared.calls.Command.TheVariants.{Admit, Remove, HandIn, TakeIn, Post, Correct, Cost, Freeze, Reopen, Bill}
 use Rattle.sharing.specs.declared.names.RuleName.{RuleName}
 use Rattle.journal_rules.specs.Journal.{Journal, Reply as Said, Made, answered, offers_to, call_for, called, after_call, step_journal}
 use Rattle.journal_book.specs.declared.replies.Reply.{Reply}
-use Rattle.journal_book.specs.declared.replies.Reply.TheVariants.{NotOffered, Refused}
+use Rattle.journal_book.specs.declared.replies.Reply.TheVariants.{NotOffered, Refused, Row}
 use Rattle.journal_book.specs.Answers.{Answers, Leaves}
-use Rattle.journal_book.specs.Replies.{reply_for, bill_text, rows_reply, rows_of, bill_answer, out_after}
+use Rattle.journal_book.specs.Replies.{done_by, reply_for, bill_text, rows_reply, rows_of, bill_answer, out_after}
 
 pub answers_as : {rules : RuleName → Rule} {room : ℕ} {command k : Command} {old new : Journal} {reply : Reply} → command ≡ k → Answers rules room k old new reply → Answers rules room command old new reply
 answers_as {rules} {room} {old = old} {new = new} {reply = reply} e h = subst (λ (x : Command). Answers rules room x old new reply) (sym e) h
 
 pub leaves_as : (rules : RuleName → Rule) (room : ℕ) {command k : Command} (old new : Journal) (r : Result Reply AllocError) → command ≡ k → Leaves rules room k old new r → Leaves rules room command old new r
 leaves_as rules room old new r e h = subst (λ (x : Command). Leaves rules room x old new r) (sym e) h
-
--- the passes are lent as a slice
-pub answers_with : {rules : RuleName → Rule} {room : ℕ} {command k : Command} {reply : Reply} {lent passes : List (Option Token)} (old new : List (Option Token) → Journal) → command ≡ k → lent ≡ passes →
-    Answers rules room k (old lent) (new lent) reply → Answers rules room command (old passes) (new passes) reply
-answers_with {rules} {room} {k = k} {reply = reply} old new e same h = answers_as e (subst (λ (l : List (Option Token)). Answers rules room k (old l) (new l) reply) same h)
 
 -- one command, from what the book's call says
 module _ (rules : RuleName → Rule) (room : ℕ) (command : Command) (old : Journal) where
@@ -50,6 +45,15 @@ module _ (rules : RuleName → Rule) (room : ℕ) (command : Command) (old : Jou
   not_offered_is h =
       let made : step_journal rules old command ≡ unoffered = ap (λ (b : Bool). cond b (called old command (call_for rules old command)) unoffered) h in
       record { leaves = sym (ap (λ (m : Made). m.journal) made); replies = sym (ap (λ (m : Made). reply_for room command m.reply) made) }
+
+-- the reply to an outcome of the book's call
+pub row_reply : (room : ℕ) (command : Command) (r : Result ℕ Refusal) (reply : Reply) → MatchResult r (λ n. reply ≡ Row n) (λ e. reply ≡ Refused e) → reply ≡ reply_for room command (answered (told_row r))
+row_reply room command (Ok n) reply h = h
+row_reply room command (Err e) reply h = h
+
+pub done_reply : (room : ℕ) (command : Command) (r : Result (Unit {0}) Refusal) (reply : Reply) → MatchResult r (λ _. reply ≡ done_by command) (λ e. reply ≡ Refused e) → reply ≡ reply_for room command (answered (told r))
+done_reply room command (Ok _) reply h = h
+done_reply room command (Err e) reply h = h
 
 pub only_open : (command : Command) → (command ≡ Reopen → ⊥) → ((n : ℕ) → command ≡ TakeIn n → ⊥) → ((line : ℕ) (rule : RuleName) → command ≡ Bill line rule → ⊥) →
     (offers_to true command ≡ false) × ((said : Said) → bill_text command said ≡ [])
