@@ -18,7 +18,7 @@ use Rattle.journal_line.specs.declared.calls.Opening.{Opening}
 use Rattle.sharing.specs.declared.names.RuleName.{RuleName}
 use Rattle.journal_rules.specs.Journal.{Journal, step_journal}
 use Rattle.journal_rules.specs.Numbered.{Numbered}
-use Rattle.journal_rules.proofs.Numbers.{after_numbered, opening_numbered}
+use Rattle.journal_rules.proofs.Numbers.{after_numbered}
 use Rattle.journal_book.specs.declared.replies.Reply.{Reply}
 use Rattle.journal_book.specs.Answers.{Leaves, Written}
 use Rattle.journal_book.specs.Replies.{bill_text}
@@ -77,9 +77,6 @@ module _ (o : Opening) (ms : List ℕ) (zeros : ms ≡ replicate contributors 0)
       sym (ap (λ (x : Option Refusal). answer x (opening_journal o)) (ap (λ (l : List ℕ). open_refusal o.sizes l) (sym zeros) ∙ err_tells (open_refusal o.sizes ms) e (new_book o.sizes o.number) h))
 
 -- passes by their numbers
-pub opened_numbered : (e : Option Refusal) (o : Opening) (j : Journal) → Ok j ≡ answer e (opening_journal o) → Numbered j
-opened_numbered e o j h = subst Numbered (sym (ok_tells e j (opening_journal o) h).1) (opening_numbered o.sizes o.number _ _)
-
 pub leaves_numbered : (rules : RuleName → Rule) (room : ℕ) (command : Command) (old new : Journal) (r : Result Reply AllocError) → Leaves rules room command old new r → Numbered old → Numbered new
 leaves_numbered rules room command old new (Ok reply) h numbered = subst Numbered (sym h.leaves) (after_numbered rules old (command ∷ []) numbered)
 leaves_numbered rules room command old new (Err e) h numbered = subst Numbered (sym h) numbered

@@ -48,6 +48,7 @@ impl Journal {
     }
 
     // Makes one call. The rows of a bill are written from the start of `out` on.
+    // (d) `down` and `running` are no struct: each clause would name the same two laws, of its fields.
     pub fn make<D: SharingRule, R: SharingRule>(
         self,
         down: &mut D,

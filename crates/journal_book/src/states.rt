@@ -26,5 +26,5 @@ pub(crate) struct Tables {
 pub struct Journal {
     pub(crate) stage: Stage,
     pub(crate) tables: Tables,
-    ghost numbered: { Numbered (shown_as stage tables) },
+    pub ghost numbered: { Numbered (shown_as stage tables) },
 }
