@@ -30,6 +30,7 @@ impl Journal {
         ensures means { (D.meaning down.new ≡ D.meaning down.old) × (R.meaning running.new ≡ R.meaning running.old) }
     {
         let (next, made) = self.make(down, running, command, out);
+        // (c) by `and_then`: the proof did not close, since no name there has the closure's text
         match made {
             Ok(reply) => (next, push_reply(text, reply, out)),
             Err(fault) => (next, Err(fault)),
