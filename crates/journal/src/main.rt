@@ -7,20 +7,26 @@ ghost use Rattle.sharing.specs.Rules.{down, running};
 ghost use Rattle.journal_book.specs.Shown.{rules_for};
 ghost use Rattle.journal_session.specs.Session.{shown_session, without_end, line_step, Answers};
 
-use journal_session::{LineFault, Session, without_end};
+use journal_session::{AnswerError, LineFault, Session, without_end};
 use sharing::{Down, Running};
-use std::alloc::{AllocError, Global};
+use std::alloc::Global;
 use std::io;
 use std::io::{BufRead, BufReader, Write};
 use std::process::ExitCode;
 
-// How a line went on.
-enum Went {
-    On,
-    // the input is at its end
-    Out,
-    // the line is out of form
-    Wrong(LineFault),
+// Why a journal ends before its input does.
+#[derive(Drop)]
+enum Stop {
+    // the line of this number is out of form
+    OutOfForm { number: u64, fault: LineFault },
+    // a line is not read, or its answer not made or printed
+    Failed(anyhow::Error),
+}
+
+impl From<io::Error> for Stop {
+    fn from(fault: io::Error) -> Stop {
+        Stop::Failed(fault.into())
+    }
 }
 
 // The answer to a line as it was read.
@@ -29,76 +35,70 @@ pub fn answer_to(
     heap: Global,
     line: &[u8],
     text: &mut Vec<u8>,
-) -> (Session, Result<Result<(), LineFault>, AllocError>)
+) -> (Session, Result<(), AnswerError>)
     ensures { (ld : Lawful down) (lr : Lawful running) → Answers (line_step (rules_for down running ld lr) (shown_session session) (without_end line.now)) (shown_session session) (shown_session result.0) text.old.items text.new.items result.1 }
 {
     session.answer(heap, &mut Down, &mut Running, without_end(line), text)
 }
 
-// Prints what a line was answered, and says how it went on.
+// Prints what the line of a number was answered.
 fn print_answer(
     rt: &HostRuntime,
+    number: u64,
     text: &[u8],
-    told: Result<Result<(), LineFault>, AllocError>,
-) -> anyhow::Result<Went> {
-    let fault = told?;
-    rt.stdout().write_all(text)?;
-    match fault {
-        Ok(()) => Ok(Went::On),
-        Err(fault) => Ok(Went::Wrong(fault)),
+    told: Result<(), AnswerError>,
+) -> Result<(), Stop> {
+    match told {
+        Ok(()) => Ok(rt.stdout().write_all(text)?),
+        Err(AnswerError::Line(fault)) => Err(Stop::OutOfForm { number, fault }),
+        Err(fault) => Err(Stop::Failed(fault.into())),
     }
 }
 
-// Reads one line, makes its call and prints the answer.
-fn one_line<B: BufRead>(
+// The next line of the input, or none at its end.
+fn next_line<B: BufRead>(heap: Global, input: &mut B) -> io::Result<Option<Vec<u8>>> {
+    let mut line = Vec::new(heap);
+    let size = input.read_until(b'\n', &mut line)?;
+    Ok((size > 0).then_some(line))
+}
+
+// Answers line by line up to the end of the input, or to the first line that is not answered.
+fn answer_lines<B: BufRead>(
     rt: &HostRuntime,
     input: &mut B,
-    session: Session,
-) -> (Session, anyhow::Result<Went>) {
-    let mut line = Vec::new(rt.alloc());
-    match input.read_until(b'\n', &mut line) {
-        Ok(0) => return (session, Ok(Went::Out)),
-        Ok(_) => {}
-        Err(fault) => return (session, Err(fault.into())),
-    }
-    let mut text = Vec::new(rt.alloc());
-    let (session, told) = answer_to(session, rt.alloc(), line.as_slice(), &mut text);
-    let went = print_answer(rt, text.as_slice(), told);
-    (session, went)
-}
-
-// Answers line by line up to the end of the input, or to a line out of form, and says whether it came
-// to the end.
-fn run(rt: &HostRuntime) -> anyhow::Result<bool> {
-    let mut input = BufReader::new(rt.alloc(), rt.stdin())?;
-    let mut session = Session::new();
+    mut session: Session,
+) -> (Session, Result<(), Stop>) {
     for number in 1..u64::MAX {
-        let (next, went) = one_line(rt, &mut input, session);
+        let line = match next_line(rt.alloc(), input) {
+            Ok(Some(line)) => line,
+            Ok(None) => break,
+            Err(fault) => return (session, Err(fault.into())),
+        };
+        let mut text = Vec::new(rt.alloc());
+        let (next, told) = answer_to(session, rt.alloc(), &line, &mut text);
         session = next;
-        match went {
-            Ok(Went::On) => {}
-            Ok(Went::Out) => {
-                session.close();
-                return Ok(true);
-            }
-            Ok(Went::Wrong(fault)) => {
-                session.close();
-                eprintln!(rt; "line {number}: {fault}")?;
-                return Ok(false);
-            }
-            Err(fault) => {
-                session.close();
-                return Err(fault);
-            }
+        let printed = print_answer(rt, number, &text, told);
+        if printed.is_err() {
+            return (session, printed);
         }
     }
+    (session, Ok(()))
+}
+
+fn run(rt: &HostRuntime) -> Result<(), Stop> {
+    let mut input = BufReader::new(rt.alloc(), rt.stdin())?;
+    let (session, done) = answer_lines(rt, &mut input, Session::new());
     session.close();
-    Ok(true)
+    done
 }
 
 fn main(rt: HostRuntime) -> anyhow::Result<ExitCode> {
-    if run(&rt)? {
-        return Ok(ExitCode::SUCCESS);
+    match run(&rt) {
+        Ok(()) => Ok(ExitCode::SUCCESS),
+        Err(Stop::OutOfForm { number, fault }) => {
+            eprintln!(rt; "line {number}: {fault}")?;
+            Ok(ExitCode::FAILURE)
+        }
+        Err(Stop::Failed(fault)) => Err(fault),
     }
-    Ok(ExitCode::FAILURE)
 }

@@ -18,21 +18,17 @@ use Rattle.journal_line.specs.declared.calls.Opening.{Opening}
 use Rattle.sharing.specs.declared.names.RuleName.{RuleName}
 use Rattle.journal_rules.specs.Journal.{Journal, step_journal}
 use Rattle.journal_rules.specs.Numbered.{Numbered}
-use Rattle.journal_rules.proofs.Numbers.{after_numbered, opening_numbered}
+use Rattle.journal_rules.proofs.Numbers.{after_numbered}
 use Rattle.journal_book.specs.declared.replies.Reply.{Reply}
-use Rattle.journal_book.specs.declared.states.Stage.{Stage}
 use Rattle.journal_book.specs.Answers.{Leaves, Written}
 use Rattle.journal_book.specs.Replies.{bill_text}
-use Rattle.journal_book.specs.Shown.{shown_passes, shown_as, opening_journal}
+use Rattle.journal_book.specs.Stages.{shown_passes}
+use Rattle.journal_book.specs.Shown.{opening_journal}
 use Rattle.journal_book.proofs.Commands.{out_kept}
 
-pub same_journal : (s t : Stage) (us us' : List UnitRow) (cs cs' : List CostRow) (ms ms' : List ℕ) (ps : List (Option Token)) → s ≡ t → us ≡ us' → cs ≡ cs' → ms ≡ ms' → shown_as s us cs ms ps ≡ shown_as t us' cs' ms' ps
-same_journal s t us us' cs cs' ms ms' ps a b c d =
-    ap (λ (x : Stage). shown_as x us cs ms ps) a ∙ ap (λ (x : List UnitRow). shown_as t x cs ms ps) b ∙ ap (λ (x : List CostRow). shown_as t us' x ms ps) c ∙ ap (λ (x : List ℕ). shown_as t us' cs' x ps) d
-
 module _ (rules : RuleName → Rule) (command : Command) (old old' : Journal) (r : Result Reply AllocError) (e : old ≡ old') where
-  pub leaves_between : (room : ℕ) (new new' : Journal) → new ≡ new' → Leaves rules room command old new r → Leaves rules room command old' new' r
-  leaves_between room new new' d h = subst (λ (x : Journal). Leaves rules room command old' x r) d (subst (λ (x : Journal). Leaves rules room command x new r) e h)
+  pub leaves_from : (room : ℕ) (new : Journal) → Leaves rules room command old new r → Leaves rules room command old' new r
+  leaves_from room new h = subst (λ (x : Journal). Leaves rules room command x new r) e h
 
   pub written_from : (before after : List ℕ) → Written rules command old before after r → Written rules command old' before after r
   written_from before after h = subst (λ (x : Journal). Written rules command x before after r) e h
@@ -81,9 +77,6 @@ module _ (o : Opening) (ms : List ℕ) (zeros : ms ≡ replicate contributors 0)
       sym (ap (λ (x : Option Refusal). answer x (opening_journal o)) (ap (λ (l : List ℕ). open_refusal o.sizes l) (sym zeros) ∙ err_tells (open_refusal o.sizes ms) e (new_book o.sizes o.number) h))
 
 -- passes by their numbers
-pub opened_numbered : (e : Option Refusal) (o : Opening) (j : Journal) → Ok j ≡ answer e (opening_journal o) → Numbered j
-opened_numbered e o j h = subst Numbered (sym (ok_tells e j (opening_journal o) h).1) (opening_numbered o.sizes o.number _ _)
-
 pub leaves_numbered : (rules : RuleName → Rule) (room : ℕ) (command : Command) (old new : Journal) (r : Result Reply AllocError) → Leaves rules room command old new r → Numbered old → Numbered new
 leaves_numbered rules room command old new (Ok reply) h numbered = subst Numbered (sym h.leaves) (after_numbered rules old (command ∷ []) numbered)
 leaves_numbered rules room command old new (Err e) h numbered = subst Numbered (sym h) numbered

@@ -1,14 +1,12 @@
 -- A replay, command by command. Assumes nothing.
-use Rattle.std.proofs.Common.{◌≡◌, ℕ, ◌+◌, List, [], ◌∷◌, ◌++◌, take, Ok, Err, Result, sym, refl, ap, ◌∙◌, subst, ⊎_elim, append_assoc, append-nil, arith}
+use Rattle.std.proofs.Common.{◌≡◌, ℕ, ◌+◌, List, [], ◌∷◌, ◌++◌, take, true, false, is_err, Ok, Err, Result, sym, refl, ap, ◌∙◌, subst, ⊎_elim, append_assoc, append-nil, arith}
 use Rattle.std.specs.declared.alloc.AllocError.{AllocError}
 use Rattle.sharing.specs.Rule.{Meaning, Lawful, Rule}
 use Rattle.line_rows.specs.Writing.{most_line}
 use Rattle.journal_line.specs.declared.calls.Command.{Command}
 use Rattle.sharing.specs.declared.names.RuleName.{RuleName}
 use Rattle.journal_rules.specs.Journal.{Journal, step_journal, after}
-use Rattle.journal_rules.specs.Numbered.{Numbered}
-use Rattle.journal_rules.proofs.Numbers.{after_numbered}
-use Rattle.journal_book.specs.Replay.{Tells, Replayed, Stopped}
+use Rattle.journal_book.specs.Replay.{Tells, Replayed, Stopped, Replays}
 use Rattle.journal_book.specs.Shown.{rules_for}
 use Rattle.journal_book.specs.Texts.{reply_text, replay_text}
 
@@ -18,11 +16,10 @@ for_rules Q {e = e} {r = r} p q h =
     subst (λ (y : Meaning). (le : Lawful e) (ls : Lawful y) → Q (rules_for e y le ls)) q (subst (λ (x : Meaning). (ld : Lawful x) (lr : Lawful r) → Q (rules_for x r ld lr)) p h)
 
 -- one turn, at the rules and the room of the start
-pub turn : {d e r s : Meaning} (p : d ≡ e) (q : r ≡ s) (room : ℕ) → room ≡ most_line → (c : Command) (j j' : Journal) (t t' : List ℕ) (x y : Result (Unit {0}) AllocError) → x ≡ y →
-    ((ld : Lawful d) (lr : Lawful r) → Tells (rules_for d r ld lr) room c j j' t t' x) → (le : Lawful e) (ls : Lawful s) → Tells (rules_for e s le ls) most_line c j j' t t' y
-turn {d = d} {r = r} p q room full c j j' t t' x y is h =
-    for_rules (λ (rules : RuleName → Rule). Tells rules most_line c j j' t t' y) p q (λ ld lr.
-    subst (λ (z : Result (Unit {0}) AllocError). Tells (rules_for d r ld lr) most_line c j j' t t' z) is (subst (λ (n : ℕ). Tells (rules_for d r ld lr) n c j j' t t' x) full (h ld lr)))
+pub turn : {d e r s : Meaning} (p : d ≡ e) (q : r ≡ s) (room : ℕ) → room ≡ most_line → (c : Command) (j j' : Journal) (t t' : List ℕ) (x : Result (Unit {0}) AllocError) →
+    ((ld : Lawful d) (lr : Lawful r) → Tells (rules_for d r ld lr) room c j j' t t' x) → (le : Lawful e) (ls : Lawful s) → Tells (rules_for e s le ls) most_line c j j' t t' x
+turn {d = d} {r = r} p q room full c j j' t t' x h =
+    for_rules (λ (rules : RuleName → Rule). Tells rules most_line c j j' t t' x) p q (λ ld lr. subst (λ (n : ℕ). Tells (rules_for d r ld lr) n c j j' t t' x) full (h ld lr))
 
 module _ (rules : RuleName → Rule) where
   after_push : (j : Journal) (cs : List Command) (c : Command) → after rules j (cs ++ c ∷ []) ≡ (step_journal rules (after rules j cs) c).journal
@@ -40,7 +37,7 @@ module _ (rules : RuleName → Rule) where
     stepped : j' ≡ (step_journal rules j c).journal → j' ≡ after rules old (take (i + 1) commands)
     stepped h = h ∙ ap (λ (x : Journal). (step_journal rules x c).journal) done.leaves ∙ sym (after_push old (take i commands) c) ∙ sym (ap (after rules old) more)
 
-    pub replayed_more : Tells rules most_line c j j' t t' (Ok tt) → Replayed rules old (take (i + 1) commands) j' before t'
+    replayed_more : Tells rules most_line c j j' t t' (Ok tt) → Replayed rules old (take (i + 1) commands) j' before t'
     replayed_more h = record {
       leaves = stepped h.0;
       writes =
@@ -51,12 +48,18 @@ module _ (rules : RuleName → Rule) where
           ∙ ap (λ (l : List ℕ). before ++ l) (sym (text_push old (take i commands) c) ∙ sym (ap (replay_text rules old) more));
     }
 
-    pub replay_stops : (e : AllocError) → Tells rules most_line c j j' t t' (Err e) → Stopped rules old commands j' before t'
+    replay_stops : (e : AllocError) → Tells rules most_line c j j' t t' (Err e) → Stopped rules old commands j' before t'
     replay_stops e h =
         ⊎_elim
         (λ same. record { told = i; made = i; near = (omega arith, omega arith); leaves = same ∙ done.leaves; writes = h.1 ∙ done.writes })
         (λ next. record { told = i; made = i + 1; near = (omega arith, omega arith); leaves = stepped next; writes = h.1 ∙ done.writes })
         h.0
 
-pub replay_numbered : (rules : RuleName → Rule) (old new : Journal) (commands : List Command) → new ≡ after rules old commands → Numbered old → Numbered new
-replay_numbered rules old new commands leads numbered = subst Numbered (sym leads) (after_numbered rules old commands numbered)
+    -- the same by what the text's call told
+    pub stops : (r : Result (Unit {0}) AllocError) → true ≡ is_err r → Tells rules most_line c j j' t t' r → Replays rules old commands j' before t' r
+    stops (Ok _) e h = cc
+    stops (Err e) is h = replay_stops e h
+
+    pub goes_on : (r : Result (Unit {0}) AllocError) → false ≡ is_err r → Tells rules most_line c j j' t t' r → Replayed rules old (take (i + 1) commands) j' before t'
+    goes_on (Ok _) is h = replayed_more h
+    goes_on (Err e) is h = cc

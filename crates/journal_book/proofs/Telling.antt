@@ -1,7 +1,6 @@
 -- The text of a reply, from what a call leaves in the buffer. Assumes nothing.
-use Rattle.std.proofs.Common.{◌≡◌, ℕ, ◌+◌, Bool, true, false, cond, ltb, List, [], ◌∷◌, ◌++◌, length, take, drop, is_ok, Some, None, Ok, Err, Option, Result, sym, refl, ap, ◌∙◌, subst, inl, inr, arith}
+use Rattle.std.proofs.Common.{◌≡◌, ℕ, ◌+◌, cond, List, [], ◌∷◌, ◌++◌, length, take, drop, is_ok, Some, None, Ok, Err, Option, Result, refl, ap, ◌∙◌, subst, inl, inr}
 use Rattle.std.specs.declared.alloc.AllocError.{AllocError}
-use Rattle.std.proofs.lemmas.Bool.{ltb-false}
 use Rattle.tariff.specs.declared.refusal.Refusal.{Refusal}
 use Rattle.tariff.specs.Refusals.{unless}
 use Rattle.sharing.specs.Rule.{Rule}
@@ -15,40 +14,7 @@ use Rattle.journal_book.specs.declared.replies.Reply.{Reply}
 use Rattle.journal_book.specs.Answers.{Answers, Leaves, Written}
 use Rattle.journal_book.specs.Replay.{Tells}
 use Rattle.journal_book.specs.Replies.{done_by, bill_text, rows_reply, reply_for, out_after}
-use Rattle.journal_book.specs.Texts.{reply_words, reply_text, Within}
-
--- rows that are not refused have room
-done_within : (command : Command) (room : ℕ) → Within (done_by command) room
-done_within (Admit c) room = tt
-done_within (Remove c) room = tt
-done_within (HandIn n) room = tt
-done_within (TakeIn n) room = tt
-done_within (Post n u) room = tt
-done_within (Correct n at q) room = tt
-done_within (Cost n x) room = tt
-done_within Freeze room = tt
-done_within Reopen room = tt
-done_within (Bill line rule) room = tt
-
-fits : (b : Bool) (e : Refusal) → cond b (Some e) None ≡ None → b ≡ false
-fits true e h = let z : ◌≡◌ {A = ℕ} 0 1 = cc in absurd (omega arith)
-fits false e h = refl
-
-rows_within : (o : Option Refusal) (room : ℕ) (rows : List ℕ) → put_refusal room 0 rows ≡ o → Within (rows_reply o (length rows)) room
-rows_within None room rows h = omega (arith, ltb-false room (0 + length rows) (fits (ltb room (0 + length rows)) _ h))
-rows_within (Some e) room rows h = tt
-
-reply_within : (room : ℕ) (command : Command) (said : Said) → Within (reply_for room command said) room
-reply_within room command (answered accepted) = done_within command room
-reply_within room command (answered (gave p)) = tt
-reply_within room command (answered (row n)) = tt
-reply_within room command (answered (froze b)) = tt
-reply_within room command (answered (stayed_open b e)) = tt
-reply_within room command (answered (reopened b)) = tt
-reply_within room command (answered (billed f)) = rows_within (put_refusal room 0 (bill_text command (answered (billed f)))) room (bill_text command (answered (billed f))) refl
-reply_within room command (answered (refused e)) = tt
-reply_within room command (answered not_offered) = tt
-reply_within room command (no_pass n) = tt
+use Rattle.journal_book.specs.Texts.{reply_words, reply_text}
 
 -- the buffer matters only to the rows of a bill, and these stand at its start
 done_words : (command : Command) (out rows : List ℕ) → reply_words out (done_by command) ≡ reply_words rows (done_by command)
@@ -90,11 +56,6 @@ module _ (rules : RuleName → Rule) (command : Command) (old new : Journal) (ou
 
     written : out' ≡ out_after out (bill_text command (step_journal rules old command).reply)
     written = subst (λ (r : Result Reply AllocError). Written rules command old out out' r) is writes
-
-    pub rows_inside : length out' ≡ length out → Within reply (length out')
-    rows_inside same =
-        let inside : Within reply (length out) = subst (λ (r : Reply). Within r (length out)) (sym answers.replies) (reply_within (length out) command (step_journal rules old command).reply) in
-        subst (λ (n : ℕ). Within reply n) (sym same) inside
 
     text_of : reply_words out' reply ≡ reply_text (length out) command (step_journal rules old command).reply
     text_of = ap (λ (l : List ℕ). reply_words l reply) written ∙ ap (λ (r : Reply). reply_words (out_after out (bill_text command (step_journal rules old command).reply)) r) answers.replies ∙ words out command (step_journal rules old command).reply

@@ -2,4 +2,5 @@ pub mod Answers
 pub mod Replay
 pub mod Replies
 pub mod Shown
+pub mod Stages
 pub mod Texts

@@ -4,8 +4,7 @@
 --   reply_words   a reply, with the buffer that the rows of a bill stand in
 --   reply_text    the text for a command, with a buffer of so many bytes for the rows of a bill
 --   replay_text   the texts for a list of commands
---   Within        the rows of a bill stand in a buffer of so many bytes
-use Rattle.std.specs.Prelude.{ℕ, ◌≤◌, List, [], ◌∷◌, ◌++◌, take, codes, decimal}
+use Rattle.std.specs.Prelude.{ℕ, List, [], ◌∷◌, ◌++◌, take, codes, decimal}
 use Rattle.tariff.specs.declared.refusal.Refusal.{Refusal}
 use Rattle.tariff.specs.declared.refusal.Told.{Told}
 use Rattle.tariff.specs.declared.refusal.Told.TheVariants.{Nothing, Row as RowTold, AreaAndDay, Place}
@@ -48,16 +47,3 @@ abbrev pub replay_text : (RuleName → Rule) → Journal → List Command → Li
 replay_text rules j [] = []
 replay_text rules j (command ∷ commands) =
     reply_text most_line command (step_journal rules j command).reply ++ replay_text rules (step_journal rules j command).journal commands
-
-abbrev pub Within : Reply → ℕ → Type 0
-Within (Pass n) room = Unit {0}
-Within Removed room = Unit {0}
-Within HandedIn room = Unit {0}
-Within (Row n) room = Unit {0}
-Within Corrected room = Unit {0}
-Within Frozen room = Unit {0}
-Within Open room = Unit {0}
-Within (Billed n) room = n ≤ room
-Within (Refused e) room = Unit {0}
-Within NotOffered room = Unit {0}
-Within (NoPass n) room = Unit {0}

@@ -2,6 +2,7 @@
 // the book gave it.
 #![tactic(auto)]
 
+mod errors;
 mod frozen_calls;
 mod journal;
 mod open_calls;
@@ -11,6 +12,7 @@ mod replies;
 mod states;
 mod texts;
 
+pub use errors::OpenError;
 pub use replies::Reply;
 pub use states::Journal;
-pub use texts::refusal_text;
+pub use texts::RefusalLine;

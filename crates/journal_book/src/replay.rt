@@ -5,9 +5,8 @@ ghost use Rattle.book_rules.specs.Laws.{LawsOfALife};
 ghost use Rattle.book_rules.specs.Run.{State, Call, Offered, final};
 ghost use Rattle.journal_rules.specs.Journal.{calls_of};
 ghost use Rattle.journal_rules.specs.LawsOf.{LawsOf};
-ghost use Rattle.journal_rules.specs.Numbered.{Numbered};
 ghost use Rattle.journal_book.specs.Replay.{Tells, Replays};
-ghost use Rattle.journal_book.specs.Shown.{shown_journal, rules_for};
+ghost use Rattle.journal_book.specs.Shown.{rules_for, shown_journal};
 
 use crate::states::Journal;
 use crate::texts::push_reply;
@@ -31,11 +30,9 @@ impl Journal {
         ensures means { (D.meaning down.new ≡ D.meaning down.old) × (R.meaning running.new ≡ R.meaning running.old) }
     {
         let (next, made) = self.make(down, running, command, out);
+        // (c) by `and_then`: the proof did not close, since no name there has the closure's text
         match made {
-            Ok(reply) => {
-                let told = push_reply(text, reply, out);
-                (next, told)
-            }
+            Ok(reply) => (next, push_reply(text, reply, out)),
             Err(fault) => (next, Err(fault)),
         }
     }
@@ -49,7 +46,6 @@ impl Journal {
         text: &mut Vec<u8>,
     ) -> (Journal, Result<(), AllocError>)
         ensures answers { (ld : Lawful (D.meaning down.old)) (lr : Lawful (R.meaning running.old)) → Replays (rules_for (D.meaning down.old) (R.meaning running.old) ld lr) (shown_journal self) commands.now (shown_journal result.0) text.old.items text.new.items result.1 }
-        ensures numbered { Numbered (shown_journal self) → Numbered (shown_journal result.0) }
         ensures life { (ld : Lawful (D.meaning down.old)) (lr : Lawful (R.meaning running.old)) (s : State) (before : List Call) → LawsOfALife s → Offered s before → final s before ≡ (shown_journal self).state → LawsOf s (before ++ calls_of (rules_for (D.meaning down.old) (R.meaning running.old) ld lr) (shown_journal self) commands.now) }
         ensures lawful { Lawful (D.meaning down.old) × Lawful (R.meaning running.old) }
         ensures means { (D.meaning down.new ≡ D.meaning down.old) × (R.meaning running.new ≡ R.meaning running.old) }
@@ -59,8 +55,8 @@ impl Journal {
         for command in commands {
             let (next, told) = journal.tell(down, running, *command, &mut out, text);
             journal = next;
-            if let Err(fault) = told {
-                return (journal, Err(fault));
+            if told.is_err() {
+                return (journal, told);
             }
         }
         (journal, Ok(()))

@@ -1,7 +1,7 @@
 // What a journal answers to a call.
 use tariff::Refusal;
 
-#[derive(Clone, Copy)]
+#[derive(Clone, Copy, PartialEq, Eq, Debug)]
 pub enum Reply {
     // the number of the pass that the book gave
     Pass(u32),

@@ -1,53 +1,63 @@
 // What a journal answers, as text.
-ghost use Rattle.std.specs.Prelude.{◌≡◌, ◌++◌, length, is_ok, IfOk, if◌then◌else◌, string_bytes, codes, decimal};
-ghost use Rattle.journal_book.specs.Texts.{told_text, refusal_text, reply_words, Within};
+ghost use Rattle.std.specs.Prelude.{◌≡◌, ◌++◌, [], is_ok, if◌then◌else◌, Some};
+ghost use Rattle.journal_book.specs.Texts.{refusal_text, reply_words};
 
 use crate::replies::Reply;
-use std::alloc::{AllocError, Global};
+use std::alloc::AllocError;
+use std::fmt;
 use tariff::Refusal;
 use tariff::refusal::Told;
 
-fn told_text(heap: Global, number: u8, told: Told) -> Result<String, AllocError>
-    ensures { IfOk result (λ t. string_bytes t ≡ codes "refused " ++ (decimal number ++ told_text told)) }
-{
-    match told {
-        Told::Nothing => format!(in heap; "refused {number}\n"),
-        Told::Row { table, row } => format!(in heap; "refused {number} {table} {row}\n"),
-        Told::AreaAndDay { subzone, day } => format!(in heap; "refused {number} {subzone} {day}\n"),
-        Told::Place(place) => format!(in heap; "refused {number} {place}\n"),
+// A refusal as the line that a journal answers: its number, and what it tells.
+#[derive(Clone, Copy, PartialEq, Eq, Debug)]
+pub struct RefusalLine(pub Refusal);
+
+impl fmt::Display for RefusalLine {
+    ghost output = { λ line. Some (refusal_text line.0) };
+
+    fn fmt<W: fmt::Write>(&self, f: &mut fmt::Formatter<W>) -> fmt::Result {
+        let number = self.0.number();
+        match self.0.told() {
+            Told::Nothing => writeln!(f, "refused {number}"),
+            Told::Row { table, row } => writeln!(f, "refused {number} {table} {row}"),
+            Told::AreaAndDay { subzone, day } => writeln!(f, "refused {number} {subzone} {day}"),
+            Told::Place(place) => writeln!(f, "refused {number} {place}"),
+        }
     }
 }
 
-// A refusal as a journal answers it.
-pub fn refusal_text(heap: Global, refusal: Refusal) -> Result<String, AllocError>
-    ensures { IfOk result (λ t. string_bytes t ≡ refusal_text refusal) }
-{
-    told_text(heap, refusal.number(), refusal.told())
+// The line of a reply; of a bill none, since its rows stand in the buffer.
+impl fmt::Display for Reply {
+    ghost output = { λ reply. Some (reply_words [] reply) };
+
+    fn fmt<W: fmt::Write>(&self, f: &mut fmt::Formatter<W>) -> fmt::Result {
+        match *self {
+            Reply::Pass(number) => writeln!(f, "pass {number}"),
+            Reply::Removed => f.write_str("removed\n"),
+            Reply::HandedIn => f.write_str("handed in\n"),
+            Reply::Row(row) => writeln!(f, "row {row}"),
+            Reply::Corrected => f.write_str("corrected\n"),
+            Reply::Frozen => f.write_str("frozen\n"),
+            Reply::Open => f.write_str("open\n"),
+            Reply::Billed(_) => f.write_str(""),
+            Reply::Refused(refusal) => {
+                let line = RefusalLine(refusal);
+                write!(f, "{line}")
+            }
+            Reply::NotOffered => f.write_str("not offered\n"),
+            Reply::NoPass(number) => writeln!(f, "no pass {number}"),
+        }
+    }
 }
 
-fn push_string(text: &mut Vec<u8>, line: String) -> Result<(), AllocError>
-    ensures { text.new.items ≡ (if is_ok result then text.old.items ++ string_bytes line else text.old.items) }
-{
-    text.extend_from_slice(line.as_bytes())
-}
-
-// Appends the text of a reply; the rows of a bill stand in `out`.
+// Appends the text of a reply; the rows of a bill stand at the start of `out`.
 pub(crate) fn push_reply(text: &mut Vec<u8>, reply: Reply, out: &[u8]) -> Result<(), AllocError>
-    requires { Within reply (length out.now) }
     ensures { text.new.items ≡ (if is_ok result then text.old.items ++ reply_words out.now reply else text.old.items) }
 {
-    let heap = *text.allocator();
-    match reply {
-        Reply::Pass(number) => push_string(text, format!(in heap; "pass {number}\n")?),
-        Reply::Removed => text.extend_from_slice(b"removed\n"),
-        Reply::HandedIn => text.extend_from_slice(b"handed in\n"),
-        Reply::Row(row) => push_string(text, format!(in heap; "row {row}\n")?),
-        Reply::Corrected => text.extend_from_slice(b"corrected\n"),
-        Reply::Frozen => text.extend_from_slice(b"frozen\n"),
-        Reply::Open => text.extend_from_slice(b"open\n"),
-        Reply::Billed(end) => text.extend_from_slice(&out[0..end]),
-        Reply::Refused(refusal) => push_string(text, refusal_text(heap, refusal)?),
-        Reply::NotOffered => text.extend_from_slice(b"not offered\n"),
-        Reply::NoPass(number) => push_string(text, format!(in heap; "no pass {number}\n")?),
+    if let Reply::Billed(end) = reply {
+        return text.extend_from_slice(out.get(..end).unwrap_or(out));
     }
+    let heap = *text.allocator();
+    let line = format!(in heap; "{reply}")?;
+    text.extend_from_slice(line.as_bytes())
 }

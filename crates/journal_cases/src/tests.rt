@@ -37,9 +37,7 @@ fn units(customer: u16, quantity: u32) -> UnitRow {
 }
 
 fn replayed(heap: Global, commands: &[Command]) -> Result<Vec<u8>, Fail> {
-    let Ok(journal) = Journal::open(heap, OPENING)? else {
-        return Err(Fail::new("not opened"));
-    };
+    let journal = Journal::open(heap, OPENING)?;
     let mut text = Vec::new(heap);
     let (journal, done) = journal.replay(&mut Down, &mut Running, commands, &mut text);
     journal.close();

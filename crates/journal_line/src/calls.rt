@@ -1,13 +1,14 @@
 // What a line of a journal says, and why a line says nothing.
 ghost use Rattle.std.specs.Prelude.{◌≡◌, Some};
 ghost use Rattle.journal_line.specs.Faults.{usage, fault_words};
+ghost use Rattle.journal_line.specs.Words.{Calls};
 
 use sharing::RuleName;
 use std::fmt;
 use tariff::{CostRow, Sizes, UnitRow};
 
 // What a book is opened with: its number, its sizes, and how many rows its tables have.
-#[derive(Clone, Copy)]
+#[derive(Clone, Copy, PartialEq, Eq, Debug)]
 pub struct Opening {
     pub number: u32,
     pub sizes: Sizes,
@@ -16,7 +17,7 @@ pub struct Opening {
 }
 
 // A call of a book that is open or frozen; a pass goes by its number.
-#[derive(Clone, Copy)]
+#[derive(Clone, Copy, PartialEq, Eq, Debug)]
 pub enum Command {
     Admit {
         contributor: usize,
@@ -52,7 +53,7 @@ pub enum Command {
 }
 
 // What a line says.
-#[derive(Clone, Copy)]
+#[derive(Clone, Copy, PartialEq, Eq, Debug)]
 pub enum Line {
     // it is empty or a remark
     Skipped,
@@ -61,7 +62,7 @@ pub enum Line {
 }
 
 // The calls by their first words.
-#[derive(Clone, Copy)]
+#[derive(Clone, Copy, PartialEq, Eq, Debug)]
 pub enum CallName {
     Open,
     Admit,
@@ -77,7 +78,7 @@ pub enum CallName {
 }
 
 // Why a line says nothing.
-#[derive(Clone, Copy)]
+#[derive(Clone, Copy, PartialEq, Eq, Debug)]
 pub enum Fault {
     // its first word is not a call
     UnknownCall,
@@ -86,6 +87,26 @@ pub enum Fault {
 }
 
 impl CallName {
+    // The call that a word names, if it names one.
+    pub(crate) fn named(word: &[u8]) -> Option<CallName>
+        ensures { Calls word.now result }
+    {
+        match word {
+            b"open" => Some(CallName::Open),
+            b"admit" => Some(CallName::Admit),
+            b"remove" => Some(CallName::Remove),
+            b"hand-in" => Some(CallName::HandIn),
+            b"take-in" => Some(CallName::TakeIn),
+            b"post" => Some(CallName::Post),
+            b"correct" => Some(CallName::Correct),
+            b"cost" => Some(CallName::Cost),
+            b"freeze" => Some(CallName::Freeze),
+            b"reopen" => Some(CallName::Reopen),
+            b"bill" => Some(CallName::Bill),
+            _ => None,
+        }
+    }
+
     // What the call takes, in words.
     fn usage(self) -> &'static str
         ensures { result.now ≡ usage self }

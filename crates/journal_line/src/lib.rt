@@ -2,6 +2,7 @@
 #![tactic(auto)]
 
 pub mod calls;
+mod fields;
 pub mod parsing;
 
 pub use calls::{CallName, Command, Fault, Line, Opening};

@@ -45,13 +45,13 @@ held_at held n p h = go (eqb n 0) refl
     go : (b : Bool) → eqb n 0 ≡ b → (n ≢ 0) × (get_or held (n - 1) None ≡ Some p)
     go true e =
         let none : ◌≡◌ {A = Option Pass} None (Some p) = sym (ap (λ (b : Bool). cond b None (get_or held (n - 1) None)) e) ∙ h in
-        let z : ◌≡◌ {A = ℕ} 0 1 = cc in absurd (omega arith)
-    go false e = (λ zero. let z : ◌≡◌ {A = Bool} true false = sym (ap (λ k. eqb k 0) zero) ∙ e in let y : ◌≡◌ {A = ℕ} 0 1 = cc in omega arith, sym (ap (λ (b : Bool). cond b None (get_or held (n - 1) None)) e) ∙ h)
+        cc
+    go false e = (λ zero. let z : ◌≡◌ {A = Bool} true false = sym (ap (λ k. eqb k 0) zero) ∙ e in cc, sym (ap (λ (b : Bool). cond b None (get_or held (n - 1) None)) e) ∙ h)
 
 inside : (held : List (Option Pass)) (i : ℕ) (p : Pass) → get_or held i None ≡ Some p → i < length held
 inside held i p h = ⊎_elim (λ lt. lt) (λ past.
     let none : ◌≡◌ {A = Option Pass} None (Some p) = sym (get_or_past held i None past) ∙ h in
-    let z : ◌≡◌ {A = ℕ} 0 1 = cc in absurd (omega arith)) (cases_lt i (length held))
+    cc) (cases_lt i (length held))
 
 by_place : (held : List (Option Pass)) (n : ℕ) → n ≢ 0 → held_pass held n ≡ get_or held (n - 1) None
 by_place held n some = ap (λ (b : Bool). cond b None (get_or held (n - 1) None)) (ne_eqb n 0 some)
@@ -76,7 +76,7 @@ module _ (j : Journal) (s : State) (numbered : Numbered j) where
         let lt : n - 1 < length j.held = omega (arith, inside (set j.held k None) (n - 1) p at.1, length-set j.held k None) in
         let there : get_or (set j.held k None) (n - 1) None ≡ None = subst (λ (i : ℕ). get_or (set j.held i None) (n - 1) None ≡ None) same (get_or-set_same j.held (n - 1) None None lt) in
         let none : ◌≡◌ {A = Option Pass} None (Some p) = sym there ∙ at.1 in
-        let z : ◌≡◌ {A = ℕ} 0 1 = cc in absurd (omega arith))
+        cc)
         (λ other. numbered.numbers n p (by_place j.held n at.0 ∙ sym (get_or-set_other j.held k (n - 1) None None other) ∙ at.1))
         (cases_eq (n - 1) k);
   }

@@ -9,8 +9,8 @@
 --   Answers            what the code's call leaves and tells
 --   Told               what is told of a line, and the text that it was appended to
 --   Interrupted        for want of memory the line was not made, or its answer was not told
+--   Appended           a text was appended, or not for want of memory
 use Rattle.std.specs.Prelude.{◌≡◌, ℕ, ◌-◌, cond, ◌⊎◌, List, [], ◌++◌, length, take, replicate, Some, None, Ok, Err, codes, Option, Result, ◌==◌, slice_index}
-use Rattle.std.specs.declared.alloc.AllocError.{AllocError}
 use Rattle.tariff.specs.declared.refusal.Refusal.{Refusal}
 use Rattle.tariff.specs.Limits.{contributors}
 use Rattle.sharing.specs.Rule.{Rule}
@@ -26,8 +26,10 @@ use Rattle.journal_line.specs.Lines.{line_in}
 use Rattle.journal_rules.specs.Journal.{Journal as Kept, step_journal}
 use Rattle.journal_book.specs.Shown.{shown_journal, opening_journal}
 use Rattle.journal_book.specs.Texts.{refusal_text, reply_text}
-use Rattle.journal_session.specs.declared.states.LineFault.{LineFault}
-use Rattle.journal_session.specs.declared.states.LineFault.TheVariants.{OutOfForm, NotOpened, OpenedAgain}
+use Rattle.journal_session.specs.declared.faults.AnswerError.{AnswerError}
+use Rattle.journal_session.specs.declared.faults.AnswerError.TheVariants.{Line as LineError, OutOfMemory}
+use Rattle.journal_session.specs.declared.faults.LineFault.{LineFault}
+use Rattle.journal_session.specs.declared.faults.LineFault.TheVariants.{OutOfForm, NotOpened, OpenedAgain}
 use Rattle.journal_session.specs.declared.states.Session.{Session}
 use Rattle.journal_session.specs.declared.states.Session.TheVariants.{Unopened, Refused, Running}
 
@@ -84,14 +86,16 @@ abbrev pub Told : Result (List ℕ) LineFault → Result (Unit {0}) LineFault �
 Told (Ok text) r before after = (r ≡ Ok tt) × (after ≡ before ++ text)
 Told (Err fault) r before after = (r ≡ Err fault) × (after ≡ before)
 
-abbrev pub told_by : Result (Unit {0}) AllocError → Result (Result (Unit {0}) LineFault) AllocError
-told_by (Ok _) = Ok (Ok tt)
-told_by (Err e) = Err e
-
 pub record Interrupted (a : Answered) (old new : Sitting) (before after : List ℕ) : Type 0 where
   pub session_was : (new ≡ old) ⊎ (new ≡ a.session)
   pub text_was : (after ≡ before) ⊎ ((text : List ℕ) × (a.outcome ≡ Ok text) × (after ≡ before ++ text))
 
-abbrev pub Answers : Answered → Sitting → Sitting → List ℕ → List ℕ → Result (Result (Unit {0}) LineFault) AllocError → Type 0
-Answers a old new before after (Ok r) = (new ≡ a.session) × Told a.outcome r before after
-Answers a old new before after (Err e) = Interrupted a old new before after
+abbrev pub Answers : Answered → Sitting → Sitting → List ℕ → List ℕ → Result (Unit {0}) AnswerError → Type 0
+Answers a old new before after (Ok _) = (new ≡ a.session) × Told a.outcome (Ok tt) before after
+Answers a old new before after (Err (LineError fault)) = (new ≡ a.session) × Told a.outcome (Err fault) before after
+Answers a old new before after (Err OutOfMemory) = Interrupted a old new before after
+
+abbrev pub Appended : List ℕ → List ℕ → List ℕ → Result (Unit {0}) AnswerError → Type 0
+Appended before text after (Ok _) = after ≡ before ++ text
+Appended before text after (Err (LineError fault)) = ⊥
+Appended before text after (Err OutOfMemory) = after ≡ before
