@@ -4,83 +4,22 @@ ghost use Rattle.journal_line.specs.Lines.{next_in, last_in};
 ghost use Rattle.scanning.specs.Scanning.{at_end};
 ghost use Rattle.std.specs.Option.{option_map};
 
-use scanning::field;
-
-// A number that a field can have: its type sets the limit.
-pub(crate) trait Number: Copy {
-    ghost MOST: { ℕ };
-
-    ghost value: { Self → ℕ };
-
-    const MOST: u64;
-
-    fn of(number: u64) -> Self
-        requires { number ≤ MOST }
-        ensures { value result ≡ number };
-}
-
-impl Number for u8 {
-    ghost MOST = { 255 };
-
-    ghost value = { λ n. n };
-
-    const MOST: u64 = u8::MAX as u64;
-
-    fn of(number: u64) -> u8 {
-        number as u8
-    }
-}
-
-impl Number for u16 {
-    ghost MOST = { 65535 };
-
-    ghost value = { λ n. n };
-
-    const MOST: u64 = u16::MAX as u64;
-
-    fn of(number: u64) -> u16 {
-        number as u16
-    }
-}
-
-impl Number for u32 {
-    ghost MOST = { 4294967295 };
-
-    ghost value = { λ n. n };
-
-    const MOST: u64 = u32::MAX as u64;
-
-    fn of(number: u64) -> u32 {
-        number as u32
-    }
-}
-
-impl Number for usize {
-    ghost MOST = { 18446744073709551615 };
-
-    ghost value = { λ n. n };
-
-    const MOST: u64 = u64::MAX;
-
-    fn of(number: u64) -> usize {
-        number as usize
-    }
-}
+use scanning::{Number, field, field_of};
 
 // The number of the next field, not above a limit, and what follows it.
 pub(crate) fn next_within<'a, N: Number>(text: &'a [u8], most: u64) -> Option<(N, &'a [u8])>
     requires { most ≤ N.MOST }
-    ensures { option_map (λ p. (N.value p.0, p.1.now)) result ≡ next_in most text.now }
+    ensures { option_map (λ p. (N.worth p.0, p.1.now)) result ≡ next_in most text.now }
 {
     let (number, text) = field(text, b" ", most)?;
-    Some((N::of(number), text))
+    Some((N::holding(number)?, text))
 }
 
 // The same with the limit of the number's type.
 pub(crate) fn next<'a, N: Number>(text: &'a [u8]) -> Option<(N, &'a [u8])>
-    ensures { option_map (λ p. (N.value p.0, p.1.now)) result ≡ next_in N.MOST text.now }
+    ensures { option_map (λ p. (N.worth p.0, p.1.now)) result ≡ next_in N.MOST text.now }
 {
-    next_within(text, N::MOST)
+    field_of(text, b" ")
 }
 
 // A value, if the text is at its end.
@@ -93,7 +32,7 @@ pub(crate) fn at_end<T: Drop>(text: &[u8], value: T) -> Option<T>
 // The number of the last field, not above a limit.
 pub(crate) fn last_within<N: Number>(text: &[u8], most: u64) -> Option<N>
     requires { most ≤ N.MOST }
-    ensures { option_map N.value result ≡ last_in most text.now }
+    ensures { option_map N.worth result ≡ last_in most text.now }
 {
     let (number, text) = next_within(text, most)?;
     at_end(text, number)
@@ -101,7 +40,7 @@ pub(crate) fn last_within<N: Number>(text: &[u8], most: u64) -> Option<N>
 
 // The same with the limit of the number's type.
 pub(crate) fn last<N: Number>(text: &[u8]) -> Option<N>
-    ensures { option_map N.value result ≡ last_in N.MOST text.now }
+    ensures { option_map N.worth result ≡ last_in N.MOST text.now }
 {
     last_within(text, N::MOST)
 }

@@ -3,7 +3,7 @@ ghost use Rattle.std.specs.Prelude.{◌≡◌, ℕ, Some, None, cond, nat_le};
 ghost use Rattle.std.specs.Option.{option_map};
 
 // A type that holds the numbers from 0 to `MOST`.
-pub trait Number: Sized {
+pub trait Number: Copy {
     // The largest number, and the number that a value is.
     ghost MOST: { ℕ };
 
@@ -49,5 +49,17 @@ impl Number for u32 {
 
     fn holding(value: u64) -> Option<u32> {
         u32::try_from(value).ok()
+    }
+}
+
+impl Number for usize {
+    ghost MOST = { 18446744073709551615 };
+
+    ghost worth = { λ n. n };
+
+    const MOST: u64 = usize::MAX as u64;
+
+    fn holding(value: u64) -> Option<usize> {
+        usize::try_from(value).ok()
     }
 }
