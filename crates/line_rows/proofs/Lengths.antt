@@ -1,8 +1,9 @@
 -- How many bytes the rows of an accepted bill take.
-use Rattle.std.proofs.Common.{ℕ, ◌+◌, ◌*◌, ◌^◌, ◌<◌, ◌≤◌, Bool, true, false, cond, List, [], ◌∷◌, ◌++◌, length, get_or, ℤ, decimal, sum, add-mul, arith, w64, SFits}
+use Rattle.std.proofs.Common.{◌≡◌, ℕ, ◌+◌, ◌*◌, ◌^◌, ◌<◌, ◌≤◌, Bool, true, false, cond, List, [], ◌∷◌, ◌++◌, length, get_or, ℤ, decimal, sum, arith, w64, Fits, SFits}
 use lib.Signed.{mag}
 use Rattle.std.specs.List.{range_with_len, flat_map, AllByRecursion}
 use Rattle.std.proofs.lemmas.Nat.{mul-le}
+use Rattle.std.proofs.lemmas.List.Concat.{length-flat_map}
 use Rattle.std.proofs.lemmas.List.FromFn.{length-range_with_len}
 use Rattle.std.proofs.lemmas.Fmt.{length-decimal-le, length_signed_le}
 use Rattle.std.proofs.ByRecursion.{All-from_get_or}
@@ -48,12 +49,15 @@ module _ (b : Bool) where
   shown_bytes false row le = le
 
 joined_within : (g : ℕ → List ℕ) (most : ℕ) (xs : List ℕ) → AllByRecursion (λ x. length (g x) ≤ most) xs → length (flat_map g xs) ≤ length xs * most
-joined_within g most [] all = omega arith
-joined_within g most (x ∷ xs) (here, rest) = omega (arith, length-append (g x) (flat_map g xs), joined_within g most xs rest, add-mul 1 (length xs) most)
+joined_within g most xs all = omega (arith, length-flat_map g xs, sum_within (λ x. length (g x)) most xs all)
 
 -- the sum of a column
 upto_sum : (xs : List ℕ) (most : ℕ) → Upto xs most → sum xs ≤ length xs * most
 upto_sum xs most all = sum_within (λ x. x) most xs (All-from_get_or (λ x. x ≤ most) xs 0 all)
+
+-- a column of small figures has a sum of 64 bits
+pub column_fits : (xs : List ℕ) (total : ℕ) → length xs ≤ 256 → Upto xs (2 ^ 48) → total ≡ sum xs → Fits w64 total
+column_fits xs total few small is = let most = upto_sum xs (2 ^ 48) small in let product = mul-le (length xs) (2 ^ 48) 256 (2 ^ 48) few (omega arith) in omega arith
 
 sum_bytes : (n charge station credit : ℕ) (short over stranded : ℤ) → n < 10 → charge < 10 ^ 17 → station < 10 ^ 17 → credit < 10 ^ 17 → SFits w64 short → SFits w64 over → SFits w64 stranded → length (sum_text n charge station credit short over stranded) ≤ 123
 sum_bytes n charge station credit short over stranded dn dc ds dr fs fo ft =

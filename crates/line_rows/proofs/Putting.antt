@@ -1,12 +1,10 @@
 -- The rows of a bill, put into a buffer.
-use Rattle.std.proofs.Common.{◌≡◌, ℕ, ◌+◌, ◌-◌, List, length, take, IfOk, Ok, Err, Result, sym, ap, ◌∙◌, subst, arith}
+use Rattle.std.proofs.Common.{◌≡◌, ℕ, ◌+◌, List, length, IfOk, Ok, Err, Result, sym, ap, ◌∙◌, subst}
 use Rattle.tariff.specs.declared.refusal.Refusal.{Refusal}
 use Rattle.tariff.specs.Refusals.{answer, unless}
 use Rattle.bill_rules.specs.Bill.{Figures}
 use Rattle.buffer.specs.Putting.{pasted, put_refusal}
-use Rattle.buffer.proofs.Pasting.{take_pasted}
 use Rattle.line_rows.specs.Rows.{line_text, text_of, text_refusal, text_in}
-use Rattle.line_rows.specs.Writing.{Wrote}
 
 -- what holds of the rows of an accepted bill
 pub rows_have : (n : ℕ) (b : Result Figures Refusal) (f : Figures) (P : List ℕ → Type 0) → Ok f ≡ b → P (line_text n f) → IfOk (text_of n b) P
@@ -36,8 +34,3 @@ module _ (out : List ℕ) (place n : ℕ) (b : Result Figures Refusal) where
         answers ∙ ap (λ (x : Result (List ℕ) Refusal). answer (text_refusal (length out) place x) (place + length (text_in x))) t,
         left ∙ ap (λ (x : Result (List ℕ) Refusal). unless (text_refusal (length out) place x) out (pasted out place (text_in x))) t,
       )
-
--- a text written from the start of a buffer stands in the part up to its end
-pub front_is : (before after text : List ℕ) (end : ℕ) → Wrote before 0 text after end → take (end - 0) after ≡ text
-front_is before after text end wrote =
-    ap (take (end - 0)) wrote.bytes ∙ ap (λ (k : ℕ). take k (pasted before 0 text)) (let e = wrote.reached in omega arith) ∙ take_pasted before text 0 (omega arith)

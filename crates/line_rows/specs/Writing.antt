@@ -1,15 +1,9 @@
--- What a part of the rows has written.
+-- How long the rows of a line can be.
 --   most_row, most_sum, most_line  bytes that a row, a sum row and the rows of a line never pass
 --   stationed, most_rows           whether a line has a station part, and bytes that the rows of its accepted bill never pass
---   Wrote                          a text stands in a buffer from a place on, and all else of the buffer is as it was
-use Rattle.std.specs.Prelude.{◌≡◌, ℕ, ◌+◌, Bool, false, cond, List, length, is_some, Some, None, Option}
+use Rattle.std.specs.Prelude.{ℕ, Bool, false, cond, is_some, Some, None, Option}
 use Rattle.lines.specs.declared.line.Line.{Line}
 use Rattle.lines.specs.Lines.{line_of}
-use Rattle.buffer.specs.Putting.{pasted}
-
-pub record Wrote (before : List ℕ) (place : ℕ) (text after : List ℕ) (end : ℕ) : Type 0 where
-  pub bytes : after ≡ pasted before place text
-  pub reached : end ≡ place + length text
 
 -- no number of 64 bits takes more than 20 bytes: a row has five with their spaces, a sum row seven
 abbrev pub most_row : ℕ

@@ -1,151 +1,96 @@
-// The rows of a line, in a buffer that has room for the most customers.
-ghost use Rattle.std.specs.Prelude.{◌≡◌, ◌+◌, ◌*◌, ◌^◌, ◌≤◌, ◌++◌, length, ℤ, sum};
+// The rows of a line, as text.
+ghost use Rattle.std.specs.Prelude.{◌≡◌, ◌+◌, ◌*◌, ◌≤◌, ◌++◌, length};
 ghost use Rattle.std.specs.List.{range_with_len, flat_map};
 ghost use Rattle.tariff.specs.Limits.{most_customers};
-ghost use Rattle.billing.specs.Work.{Upto};
-ghost use Rattle.line_rows.specs.Rows.{row_text, figureless, row_unless, customer_row, sum_text, line_text};
-ghost use Rattle.line_rows.specs.Writing.{Wrote, most_row, most_sum, most_line};
+ghost use Rattle.line_rows.specs.Rows.{field, signed_field, row_text, row_unless, customer_row, sum_text, line_text};
+ghost use Rattle.line_rows.specs.Writing.{most_row, most_sum, most_line};
 
-use crate::parts::{write_bytes, write_field, write_number, write_signed_field};
+use crate::columns::{Columns, RowFigures};
+use crate::text::RowText;
 use bill_rules::Remainders;
 
-// One customer's row.
-fn write_row(
-    out: &mut [u8],
-    place: usize,
-    line: u8,
-    customer: usize,
-    charge: u64,
-    station: u64,
-    credit: u64,
-) -> usize
-    requires { place + most_row ≤ length out.old }
-    ensures wrote { Wrote out.old place (row_text line customer charge station credit) out.new result }
-    ensures near { result ≤ place + most_row }
+// The three figures of a row.
+fn push_figures(text: &mut RowText, figures: RowFigures)
+    requires { length text.old + 63 ≤ most_line }
+    ensures pushed { text.new ≡ ((text.old ++ field figures.charge) ++ field figures.station) ++ field figures.credit }
+    ensures near { length text.new ≤ length text.old + 63 }
 {
-    let at = write_number(out, place, u64::from(line));
-    let at = write_field(out, at, customer as u64);
-    let at = write_field(out, at, charge);
-    let at = write_field(out, at, station);
-    let at = write_field(out, at, credit);
-    write_bytes(out, at, b"\n")
+    text.push_field(figures.charge);
+    text.push_field(figures.station);
+    text.push_field(figures.credit);
 }
 
-// Whether all figures of a customer are 0.
-fn is_figureless(charge: u64, station: u64, credit: u64) -> bool
-    ensures { result ≡ figureless charge station credit }
+// What the line's rows leave of its costs.
+fn push_remainders(text: &mut RowText, left: Remainders)
+    requires { length text.old + 63 ≤ most_line }
+    ensures pushed { text.new ≡ ((text.old ++ signed_field left.short) ++ signed_field left.over) ++ signed_field left.stranded }
+    ensures near { length text.new ≤ length text.old + 63 }
 {
-    charge == 0 && station == 0 && credit == 0
+    text.push_field(left.short);
+    text.push_field(left.over);
+    text.push_field(left.stranded);
+}
+
+// One customer's row.
+fn push_row(text: &mut RowText, line: u8, customer: usize, figures: RowFigures)
+    requires { length text.old + most_row ≤ most_line }
+    ensures pushed { text.new ≡ text.old ++ row_text line customer figures.charge figures.station figures.credit }
+    ensures near { length text.new ≤ length text.old + most_row }
+{
+    text.push_number(u64::from(line));
+    text.push_field(customer as u64);
+    push_figures(text, figures);
+    text.push_bytes(b"\n");
 }
 
 // The row of a customer, unless all its figures are 0.
-fn write_customer(
-    out: &mut [u8],
-    place: usize,
-    line: u8,
-    customer: usize,
-    charge: u64,
-    station: u64,
-    credit: u64,
-) -> usize
-    requires { place + most_row ≤ length out.old }
-    ensures wrote { Wrote out.old place (row_unless line customer charge station credit) out.new result }
-    ensures near { result ≤ place + most_row }
+fn push_customer(text: &mut RowText, line: u8, customer: usize, figures: RowFigures)
+    requires { length text.old + most_row ≤ most_line }
+    ensures pushed { text.new ≡ text.old ++ row_unless line customer figures.charge figures.station figures.credit }
+    ensures near { length text.new ≤ length text.old + most_row }
 {
-    if is_figureless(charge, station, credit) {
-        return place;
+    if !figures.is_figureless() {
+        push_row(text, line, customer, figures);
     }
-    write_row(out, place, line, customer, charge, station, credit)
 }
 
 // The rows of all customers, in rising order.
-fn write_customers(
-    out: &mut [u8],
-    line: u8,
-    charges: &[u64],
-    stations: &[u64],
-    credits: &[u64],
-) -> usize
-    requires places { (length stations.now ≡ length charges.now) × (length credits.now ≡ length charges.now) × (length charges.now ≤ most_customers) }
-    requires room { most_line ≤ length out.old }
-    ensures wrote { Wrote out.old 0 (flat_map (customer_row line charges.now stations.now credits.now) (range_with_len 0 (length charges.now))) out.new result }
-    ensures near { result ≤ most_row * most_customers }
+fn push_customers(text: &mut RowText, line: u8, columns: &Columns)
+    requires { length text.old ≡ 0 }
+    ensures pushed { text.new ≡ flat_map (customer_row line columns.now.charges.now columns.now.stations.now columns.now.credits.now) (range_with_len 0 (length columns.now.charges.now)) }
+    ensures near { length text.new ≤ most_row * most_customers }
 {
-    let mut at = 0;
-    for customer in 0..charges.len() {
-        at = write_customer(
-            out,
-            at,
-            line,
-            customer,
-            charges[customer],
-            stations[customer],
-            credits[customer],
-        );
+    let stations = columns.stations.iter();
+    let credits = columns.credits.iter();
+    let figures = columns.charges.iter().zip(stations).zip(credits);
+    for (customer, ((charge, station), credit)) in figures.enumerate() {
+        let figures = RowFigures {
+            charge: *charge,
+            station: *station,
+            credit: *credit,
+        };
+        push_customer(text, line, customer, figures);
     }
-    at
-}
-
-// The sum of a column whose figures are small.
-fn column_sum(column: &[u64]) -> u64
-    requires { (length column.now ≤ most_customers) × (Upto column.now (2 ^ 48)) }
-    ensures { result ≡ sum column.now }
-{
-    let mut total: u64 = 0;
-    for figure in column {
-        total += *figure;
-    }
-    total
 }
 
 // The row of the line's totals.
-fn write_sum(
-    out: &mut [u8],
-    place: usize,
-    line: u8,
-    charge: u64,
-    station: u64,
-    credit: u64,
-    left: Remainders,
-) -> usize
-    requires { place + most_sum ≤ length out.old }
-    ensures wrote { Wrote out.old place (sum_text line charge station credit left.short left.over left.stranded) out.new result }
-    ensures near { result ≤ place + most_sum }
+fn push_sum(text: &mut RowText, line: u8, totals: RowFigures, left: Remainders)
+    requires { length text.old + most_sum ≤ most_line }
+    ensures { text.new ≡ text.old ++ sum_text line totals.charge totals.station totals.credit left.short left.over left.stranded }
 {
-    let at = write_number(out, place, u64::from(line));
-    let at = write_bytes(out, at, b" sum");
-    let at = write_field(out, at, charge);
-    let at = write_field(out, at, station);
-    let at = write_field(out, at, credit);
-    let at = write_signed_field(out, at, left.short);
-    let at = write_signed_field(out, at, left.over);
-    let at = write_signed_field(out, at, left.stranded);
-    write_bytes(out, at, b"\n")
+    text.push_number(u64::from(line));
+    text.push_bytes(b" sum");
+    push_figures(text, totals);
+    push_remainders(text, left);
+    text.push_bytes(b"\n");
 }
 
-// All rows of a line, from the buffer's start on.
-pub(crate) fn write_line(
-    out: &mut [u8],
-    line: u8,
-    charges: &[u64],
-    stations: &[u64],
-    credits: &[u64],
-    left: Remainders,
-) -> usize
-    requires places { (length stations.now ≡ length charges.now) × (length credits.now ≡ length charges.now) × (length charges.now ≤ most_customers) }
-    requires small { Upto charges.now (2 ^ 48) × Upto stations.now (2 ^ 48) × Upto credits.now (2 ^ 48) }
-    requires room { most_line ≤ length out.old }
-    ensures wrote { Wrote out.old 0 (line_text line (record { charges = charges.now; stations = stations.now; credits = credits.now; short = left.short; over = left.over; stranded = left.stranded })) out.new result }
-    ensures near { result ≤ most_line }
+// All rows of a line.
+pub(crate) fn line_text(line: u8, columns: &Columns, left: Remainders) -> RowText
+    ensures { result ≡ line_text line (record { charges = columns.now.charges.now; stations = columns.now.stations.now; credits = columns.now.credits.now; short = left.short; over = left.over; stranded = left.stranded }) }
 {
-    let at = write_customers(out, line, charges, stations, credits);
-    write_sum(
-        out,
-        at,
-        line,
-        column_sum(charges),
-        column_sum(stations),
-        column_sum(credits),
-        left,
-    )
+    let mut text = RowText::new();
+    push_customers(&mut text, line, columns);
+    push_sum(&mut text, line, columns.totals(), left);
+    text
 }

@@ -8,35 +8,35 @@ use statement_report::{MOST_BYTES, make_statement};
 use std::alloc::{AllocError, Global};
 use std::io::{Read, Write};
 use std::process::ExitCode;
+use tariff::Refusal;
 
-// What is printed: the text, and whether the file is accepted.
+// What is printed: the text, and the refusal that it tells, where the file is refused.
 #[derive(Drop)]
 pub struct Printed {
-    accepted: bool,
     text: Vec<u8>,
+    refusal: Option<Refusal>,
 }
 
 // What is printed for a unit file. The buffer always holds the text.
 pub fn answer_to(heap: Global, file: &[u8]) -> Result<Printed, AllocError>
-    ensures { IfOk result (λ p. (p.accepted, p.text.items) ≡ statement_of file.now) }
+    ensures { IfOk result (λ p. (p.refusal, p.text.items) ≡ statement_of file.now) }
 {
     let mut text = vec![in heap; 0u8; MOST_BYTES]?;
-    let Ok(statement) = make_statement(file, text.as_mut_slice()) else {
-        unreachable()
-    };
+    let statement = make_statement(file, text.as_mut_slice()).unwrap();
     text.truncate(statement.length);
     Ok(Printed {
-        accepted: statement.accepted,
         text,
+        refusal: statement.refusal,
     })
 }
 
+// Prints the statement, and tells whether the file is accepted.
 fn run(rt: &HostRuntime) -> anyhow::Result<bool> {
     let mut input = Vec::new(rt.alloc());
     rt.stdin().read_to_end(&mut input)?;
     let printed = answer_to(rt.alloc(), input.as_slice())?;
     rt.stdout().write_all(printed.text.as_slice())?;
-    Ok(printed.accepted)
+    Ok(printed.refusal.is_none())
 }
 
 fn main(rt: HostRuntime) -> anyhow::Result<ExitCode> {

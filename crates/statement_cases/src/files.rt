@@ -11,15 +11,17 @@ pub(crate) type Units = (u16, u8, u8, u8, u8, u32);
 // Line, subzone, day, hour, amount.
 pub(crate) type Cost = (u8, u8, u8, u8, u32);
 
-// A file by its sizes (customers, days, subzones) and rows, and the text of its statement.
+// What a file's statement is to be: its rows, or the number of the refusal that it tells.
+pub(crate) type Expected = Result<&'static [u8], u8>;
+
+// A file by its sizes (customers, days, subzones) and rows, and its statement.
 #[derive(Clone, Copy)]
 pub(crate) struct Case {
     pub what: &'static str,
     pub sizes: (u16, u8, u8),
     pub units: &'static [Units],
     pub costs: &'static [Cost],
-    pub accepted: bool,
-    pub text: &'static [u8],
+    pub statement: Expected,
 }
 
 // The file of section 1 of docs/FORMAT.md.
@@ -32,8 +34,7 @@ pub(crate) const WORKED: Case = Case {
         (2, 1, 1, 1, 4, 90),
     ],
     costs: &[(3, 1, 1, 1, 1000)],
-    accepted: true,
-    text: b"3 0 666 0 66\n3 1 334 0 34\n3 2 0 100 0\n3 sum 1000 100 100 0 0 0\n",
+    statement: Ok(b"3 0 666 0 66\n3 1 334 0 34\n3 2 0 100 0\n3 sum 1000 100 100 0 0 0\n"),
 };
 
 pub(crate) fn header(sizes: (u16, u8, u8)) -> Record<'static> {
@@ -90,12 +91,23 @@ pub(crate) fn write_file(
 pub(crate) const BLANK: u8 = 7;
 
 pub(crate) fn is_blank(bytes: &[u8]) -> bool {
-    for byte in bytes {
-        if *byte != BLANK {
-            return false;
-        }
+    bytes.iter().all(|byte| *byte == BLANK)
+}
+
+// The text of a statement.
+fn text_of(expected: Expected) -> &'static [u8] {
+    match expected {
+        Ok(rows) => rows,
+        Err(1) => b"refused 1\n",
+        Err(8) => b"refused 8\n",
+        Err(10) => b"refused 10\n",
+        Err(11) => b"refused 11\n",
+        Err(14) => b"refused 14\n",
+        Err(16) => b"refused 16\n",
+        Err(17) => b"refused 17\n",
+        Err(18) => b"refused 18\n",
+        Err(_) => b"",
     }
-    true
 }
 
 // Checks that a buffer begins with a text, and that the bytes behind the text are blank.
@@ -107,20 +119,15 @@ pub(crate) fn check_text(rt: &impl Abort, out: &[u8], text: &[u8]) {
 
 // Checks the answer and the text of a statement made in a buffer of `room` bytes, and that all other
 // bytes stay.
-fn check_in(
-    rt: &impl Abort,
-    file: &[u8],
-    room: usize,
-    accepted: bool,
-    text: &[u8],
-) -> Result<(), Fail> {
+fn check_in(rt: &impl Abort, file: &[u8], room: usize, expected: Expected) -> Result<(), Fail> {
     let mut bytes = [BLANK; 4096];
     let Some((out, beyond)) = bytes.split_at_mut_checked(room) else {
         return Err(Fail::new("the text is too long for a case"));
     };
-    let answer = make_statement(file, out);
-    let length = text.len();
-    assert_eq!(rt; answer, Ok(Statement { accepted, length }));
+    let Statement { length, refusal } = make_statement(file, out)?;
+    let text = text_of(expected);
+    assert_eq!(rt; length, text.len());
+    assert_eq!(rt; refusal.map(Refusal::number), expected.err());
     check_text(rt, out, text);
     assert!(rt; is_blank(beyond));
     Ok(())
@@ -141,18 +148,14 @@ fn check_too_short(rt: &impl Abort, file: &[u8], room: usize) -> Result<(), Fail
 
 // Checks the statement of a file in a buffer with room behind the text, in one with the length of
 // the text, in one that is a byte shorter, and in an empty one.
-pub(crate) fn check_file(
-    rt: &impl Abort,
-    file: &[u8],
-    accepted: bool,
-    text: &[u8],
-) -> Result<(), Fail> {
-    check_in(rt, file, 4096, accepted, text)?;
-    check_in(rt, file, text.len(), accepted, text)?;
-    if text.len() == 0 {
+pub(crate) fn check_file(rt: &impl Abort, file: &[u8], expected: Expected) -> Result<(), Fail> {
+    let length = text_of(expected).len();
+    check_in(rt, file, 4096, expected)?;
+    check_in(rt, file, length, expected)?;
+    if length == 0 {
         return Ok(());
     }
-    check_too_short(rt, file, text.len() - 1)?;
+    check_too_short(rt, file, length - 1)?;
     check_too_short(rt, file, 0)
 }
 
@@ -161,11 +164,10 @@ pub(crate) fn check_front(
     rt: &impl Abort,
     bytes: &[u8],
     length: usize,
-    accepted: bool,
-    text: &[u8],
+    expected: Expected,
 ) -> Result<(), Fail> {
     assert!(rt; length <= bytes.len());
-    check_file(rt, &bytes[0..length], accepted, text)
+    check_file(rt, &bytes[0..length], expected)
 }
 
 // Checks the statement of a file of these sizes and rows.
@@ -174,23 +176,15 @@ pub(crate) fn check_rows(
     sizes: (u16, u8, u8),
     units: &[Units],
     costs: &[Cost],
-    accepted: bool,
-    text: &[u8],
+    expected: Expected,
 ) -> Result<(), Fail> {
     let mut file = [0; 1024];
     let length = write_file(&mut file, sizes, units, costs)?;
-    check_front(rt, &file, length, accepted, text)
+    check_front(rt, &file, length, expected)
 }
 
 pub(crate) fn check_case(rt: &impl Abort, case: Case) -> Result<(), Fail> {
-    check_rows(
-        rt,
-        case.sizes,
-        case.units,
-        case.costs,
-        case.accepted,
-        case.text,
-    )
+    check_rows(rt, case.sizes, case.units, case.costs, case.statement)
 }
 
 pub(crate) fn check_cases(rt: &impl Abort, cases: &[Case]) -> Result<(), Fail> {

@@ -1,7 +1,7 @@
 // Files that are refused, and the number of the refusal.
 use crate::files::{
-    Case, Cost, Units, check_cases, check_file, check_front, check_rows, cost_row, header,
-    unit_row, write_file,
+    Case, Cost, Expected, Units, check_cases, check_file, check_front, check_rows, cost_row,
+    header, unit_row, write_file,
 };
 use std::process::Abort;
 use std::test::Fail;
@@ -30,29 +30,28 @@ const SIZES: [(u16, u8, u8); 5] = [
     (256, 31, 32),
 ];
 
-// Checks the statement of a header, and of one with a byte behind it that is no record.
+// Checks the statement of a header, and the refusal of one with a byte behind it that is no record.
 fn check_sizes(
     rt: &impl Abort,
     sizes: (u16, u8, u8),
-    accepted: bool,
-    text: &[u8],
-    broken: &[u8],
+    expected: Expected,
+    broken: u8,
 ) -> Result<(), Fail> {
     let mut file = [0; 9];
     let length = write_file(&mut file, sizes, &[], &[])?;
     assert_eq!(rt; length, 8);
-    check_file(rt, &file[0..8], accepted, text)?;
-    check_file(rt, &file, false, broken)
+    check_file(rt, &file[0..8], expected)?;
+    check_file(rt, &file, Err(broken))
 }
 
 // The sizes are looked at before the rows.
 #[test]
 fn sizes(rt: HostRuntime) -> Result<(), Fail> {
-    for (i, sizes) in NO_SIZES.iter().enumerate() {
-        check_sizes(&rt, *sizes, false, b"refused 1\n", b"refused 1\n")?;
+    for sizes in &NO_SIZES {
+        check_sizes(&rt, *sizes, Err(1), 1)?;
     }
-    for (i, sizes) in SIZES.iter().enumerate() {
-        check_sizes(&rt, *sizes, true, b"", b"refused 17\n")?;
+    for sizes in &SIZES {
+        check_sizes(&rt, *sizes, Ok(b""), 17)?;
     }
     Ok(())
 }
@@ -82,11 +81,11 @@ const UNITS: [Units; 5] = [
 
 #[test]
 fn fields_of_unit_rows(rt: HostRuntime) -> Result<(), Fail> {
-    for (i, row) in NO_UNITS.iter().enumerate() {
-        check_rows(&rt, (3, 2, 2), &[*row], &[], false, b"refused 8\n")?;
+    for row in &NO_UNITS {
+        check_rows(&rt, (3, 2, 2), &[*row], &[], Err(8))?;
     }
-    for (i, row) in UNITS.iter().enumerate() {
-        check_rows(&rt, (3, 2, 2), &[*row], &[], true, b"")?;
+    for row in &UNITS {
+        check_rows(&rt, (3, 2, 2), &[*row], &[], Ok(b""))?;
     }
     Ok(())
 }
@@ -143,11 +142,11 @@ const COSTS: [(Cost, &[u8]); 7] = [
 
 #[test]
 fn fields_of_cost_rows(rt: HostRuntime) -> Result<(), Fail> {
-    for (i, row) in NO_COSTS.iter().enumerate() {
-        check_rows(&rt, (3, 2, 2), &[], &[*row], false, b"refused 8\n")?;
+    for row in &NO_COSTS {
+        check_rows(&rt, (3, 2, 2), &[], &[*row], Err(8))?;
     }
-    for (i, case) in COSTS.iter().enumerate() {
-        check_rows(&rt, (3, 2, 2), &[], &[case.0], true, case.1)?;
+    for case in &COSTS {
+        check_rows(&rt, (3, 2, 2), &[], &[case.0], Ok(case.1))?;
     }
     Ok(())
 }
@@ -158,8 +157,7 @@ const SUMS: [Case; 12] = [
         sizes: (2, 2, 2),
         units: &[(0, 1, 1, 1, 0, 2_147_483_647), (1, 2, 2, 2, 4, 1)],
         costs: &[],
-        accepted: false,
-        text: b"refused 11\n",
+        statement: Err(11),
     },
     Case {
         what: "quantities at the limit",
@@ -170,16 +168,14 @@ const SUMS: [Case; 12] = [
             (1, 1, 1, 1, 0, 0),
         ],
         costs: &[],
-        accepted: true,
-        text: b"",
+        statement: Ok(b""),
     },
     Case {
         what: "costs of a subzone and day one above the limit",
         sizes: (2, 2, 2),
         units: &[],
         costs: &[(3, 1, 1, 1, 2_147_483_647), (3, 1, 1, 2, 1)],
-        accepted: false,
-        text: b"refused 11\n",
+        statement: Err(11),
     },
     Case {
         what: "costs of a subzone and day at the limit, and other subzones, days and lines",
@@ -192,32 +188,28 @@ const SUMS: [Case; 12] = [
             (3, 1, 2, 1, 1),
             (1, 1, 1, 1, 1),
         ],
-        accepted: true,
-        text: b"1 sum 0 0 0 0 0 1\n3 sum 0 0 0 0 0 2147483649\n",
+        statement: Ok(b"1 sum 0 0 0 0 0 1\n3 sum 0 0 0 0 0 2147483649\n"),
     },
     Case {
         what: "costs of the state and a day one above the limit",
         sizes: (2, 2, 2),
         units: &[],
         costs: &[(2, 0, 2, 24, 2_147_483_647), (2, 0, 2, 1, 1)],
-        accepted: false,
-        text: b"refused 11\n",
+        statement: Err(11),
     },
     Case {
         what: "costs of a daily line one above the limit",
         sizes: (2, 2, 2),
         units: &[],
         costs: &[(5, 1, 1, 0, 2_147_483_647), (5, 1, 1, 0, 1)],
-        accepted: false,
-        text: b"refused 11\n",
+        statement: Err(11),
     },
     Case {
         what: "costs of a period line one above the limit",
         sizes: (2, 2, 2),
         units: &[],
         costs: &[(6, 0, 0, 0, 2_147_483_647), (6, 0, 0, 0, 1)],
-        accepted: false,
-        text: b"refused 11\n",
+        statement: Err(11),
     },
     Case {
         what: "costs of both period lines at the limit",
@@ -228,16 +220,14 @@ const SUMS: [Case; 12] = [
             (7, 0, 0, 0, 2_147_483_646),
             (7, 0, 0, 0, 1),
         ],
-        accepted: true,
-        text: b"6 sum 0 0 0 0 0 2147483647\n7 sum 0 0 0 0 0 2147483647\n",
+        statement: Ok(b"6 sum 0 0 0 0 0 2147483647\n7 sum 0 0 0 0 0 2147483647\n"),
     },
     Case {
         what: "a field is looked at before a sum",
         sizes: (2, 2, 2),
         units: &[(0, 1, 1, 1, 0, 2_147_483_647), (1, 1, 25, 1, 0, 1)],
         costs: &[],
-        accepted: false,
-        text: b"refused 8\n",
+        statement: Err(8),
     },
     Case {
         what: "the first refused row stops the load",
@@ -248,24 +238,21 @@ const SUMS: [Case; 12] = [
             (1, 1, 25, 1, 0, 1),
         ],
         costs: &[],
-        accepted: false,
-        text: b"refused 11\n",
+        statement: Err(11),
     },
     Case {
         what: "a refused unit row before a refused cost row",
         sizes: (2, 2, 2),
         units: &[(0, 1, 1, 1, 0, 2_147_483_647), (1, 1, 1, 1, 0, 1)],
         costs: &[(6, 0, 0, 0, 0)],
-        accepted: false,
-        text: b"refused 11\n",
+        statement: Err(11),
     },
     Case {
         what: "a refused row behind rows with figures",
         sizes: (2, 2, 2),
         units: &[(0, 1, 1, 1, 0, 5)],
         costs: &[(1, 1, 1, 1, 7), (1, 1, 1, 1, 2_147_483_641)],
-        accepted: false,
-        text: b"refused 11\n",
+        statement: Err(11),
     },
 ];
 
@@ -281,24 +268,21 @@ const STATIONS: [Case; 8] = [
         sizes: (2, 1, 1),
         units: &[(0, 1, 1, 1, 0, 1), (1, 1, 1, 1, 4, 2)],
         costs: &[(3, 1, 1, 1, 2_147_483_647)],
-        accepted: false,
-        text: b"refused 14\n",
+        statement: Err(14),
     },
     Case {
         what: "two station units, line 4",
         sizes: (2, 1, 1),
         units: &[(0, 1, 1, 1, 1, 1), (1, 1, 2, 1, 4, 2)],
         costs: &[(4, 0, 1, 3, 2_147_483_647)],
-        accepted: false,
-        text: b"refused 14\n",
+        statement: Err(14),
     },
     Case {
         what: "two station units, line 5",
         sizes: (2, 2, 2),
         units: &[(0, 2, 1, 2, 0, 1), (1, 2, 1, 2, 4, 2)],
         costs: &[(5, 2, 2, 0, 2_147_483_647)],
-        accepted: false,
-        text: b"refused 14\n",
+        statement: Err(14),
     },
     // 2 × 2147483647.
     Case {
@@ -306,8 +290,7 @@ const STATIONS: [Case; 8] = [
         sizes: (2, 1, 1),
         units: &[(0, 1, 1, 1, 0, 1), (0, 1, 1, 1, 4, 1), (1, 1, 1, 1, 4, 1)],
         costs: &[(3, 1, 1, 1, 2_147_483_647)],
-        accepted: false,
-        text: b"refused 14\n",
+        statement: Err(14),
     },
     // 1073741824 × 2 ÷ 1 is 2147483648.
     Case {
@@ -315,8 +298,7 @@ const STATIONS: [Case; 8] = [
         sizes: (2, 1, 1),
         units: &[(0, 1, 1, 1, 0, 1), (1, 1, 1, 1, 4, 2)],
         costs: &[(3, 1, 1, 1, 1_073_741_824)],
-        accepted: false,
-        text: b"refused 14\n",
+        statement: Err(14),
     },
     // 1073741823 × 2 ÷ 1 is 2147483646.
     Case {
@@ -324,8 +306,9 @@ const STATIONS: [Case; 8] = [
         sizes: (2, 1, 1),
         units: &[(0, 1, 1, 1, 0, 1), (1, 1, 1, 1, 4, 2)],
         costs: &[(3, 1, 1, 1, 1_073_741_823)],
-        accepted: true,
-        text: b"3 0 1073741823 0 2147483646\n3 1 0 2147483646 0\n3 sum 1073741823 2147483646 2147483646 0 0 0\n",
+        statement: Ok(
+            b"3 0 1073741823 0 2147483646\n3 1 0 2147483646 0\n3 sum 1073741823 2147483646 2147483646 0 0 0\n",
+        ),
     },
     Case {
         what: "lines before and behind the refused one",
@@ -337,8 +320,7 @@ const STATIONS: [Case; 8] = [
             (5, 1, 1, 0, 2_147_483_647),
             (7, 0, 0, 0, 6),
         ],
-        accepted: false,
-        text: b"refused 14\n",
+        statement: Err(14),
     },
     // 2147483647 × 1 ÷ 3 is 715827882, and 2147483647 × 3 ÷ 3 the whole.
     Case {
@@ -346,8 +328,9 @@ const STATIONS: [Case; 8] = [
         sizes: (2, 1, 1),
         units: &[(0, 1, 1, 1, 0, 1), (1, 1, 1, 1, 4, 2)],
         costs: &[(1, 1, 1, 1, 2_147_483_647), (6, 0, 0, 0, 2_147_483_647)],
-        accepted: true,
-        text: b"1 0 2147483647 0 0\n1 sum 2147483647 0 0 0 0 0\n6 0 715827882 0 0\n6 1 1431655765 0 0\n6 sum 2147483647 0 0 0 0 0\n",
+        statement: Ok(
+            b"1 0 2147483647 0 0\n1 sum 2147483647 0 0 0 0 0\n6 0 715827882 0 0\n6 1 1431655765 0 0\n6 sum 2147483647 0 0 0 0 0\n",
+        ),
     },
 ];
 
@@ -357,188 +340,156 @@ fn station_charges(rt: HostRuntime) -> Result<(), Fail> {
 }
 
 // What is wrong with a file, its bytes, and its statement. Sizes are 3 customers, 1 day, 1 subzone.
-const FORMS: [(&str, &[u8], &[u8]); 41] = [
-    ("an empty file", b"", b"refused 16\n"),
-    ("version 2", b"\x02\0\x05\0\0\x03\x01\x01", b"refused 16\n"),
-    ("version 0", b"\0", b"refused 16\n"),
-    (
-        "version 2 and a size of 0",
-        b"\x02\0\x05\0\0\0\x01\x01",
-        b"refused 16\n",
-    ),
-    (
-        "a header cut short",
-        b"\x01\0\x05\0\0\x03\x01",
-        b"refused 17\n",
-    ),
-    (
-        "a header of length 4",
-        b"\x01\0\x04\0\0\x03\x01",
-        b"refused 17\n",
-    ),
-    (
-        "a header of length 6",
-        b"\x01\0\x06\0\0\x03\x01\x01\0",
-        b"refused 17\n",
-    ),
-    ("a first record of length 0", b"\x01\0\0", b"refused 17\n"),
-    ("half a length", b"\x01\0", b"refused 17\n"),
+const FORMS: [(&str, &[u8], u8); 41] = [
+    ("an empty file", b"", 16),
+    ("version 2", b"\x02\0\x05\0\0\x03\x01\x01", 16),
+    ("version 0", b"\0", 16),
+    ("version 2 and a size of 0", b"\x02\0\x05\0\0\0\x01\x01", 16),
+    ("a header cut short", b"\x01\0\x05\0\0\x03\x01", 17),
+    ("a header of length 4", b"\x01\0\x04\0\0\x03\x01", 17),
+    ("a header of length 6", b"\x01\0\x06\0\0\x03\x01\x01\0", 17),
+    ("a first record of length 0", b"\x01\0\0", 17),
+    ("half a length", b"\x01\0", 17),
     (
         "a header of length 4 and a size of 0",
         b"\x01\0\x04\0\0\0\x01",
-        b"refused 17\n",
+        17,
     ),
-    (
-        "a stray byte",
-        b"\x01\0\x05\0\0\x03\x01\x01\0",
-        b"refused 17\n",
-    ),
+    ("a stray byte", b"\x01\0\x05\0\0\x03\x01\x01\0", 17),
     (
         "a record of length 0",
         b"\x01\0\x05\0\0\x03\x01\x01\0\0",
-        b"refused 17\n",
+        17,
     ),
     (
         "a unit row of length 10",
         b"\x01\0\x05\0\0\x03\x01\x01\0\x0a\x01\0\0\x01\x01\x01\0\0\0\x02",
-        b"refused 17\n",
+        17,
     ),
     (
         "a unit row cut short",
         b"\x01\0\x05\0\0\x03\x01\x01\0\x0b\x01\0\0\x01\x01\x01\0\0\0\x02",
-        b"refused 17\n",
+        17,
     ),
     (
         "a cost row of length 10",
         b"\x01\0\x05\0\0\x03\x01\x01\0\x0a\x02\x03\x01\x01\x01\0\0\x03\xe8\0",
-        b"refused 17\n",
+        17,
     ),
     (
         "a cost row cut short",
         b"\x01\0\x05\0\0\x03\x01\x01\0\x09\x02\x03\x01\x01\x01\0\0\x03",
-        b"refused 17\n",
+        17,
     ),
-    (
-        "an empty note",
-        b"\x01\0\x05\0\0\x03\x01\x01\0\x01\x03",
-        b"refused 17\n",
-    ),
+    ("an empty note", b"\x01\0\x05\0\0\x03\x01\x01\0\x01\x03", 17),
     (
         "a note cut short",
         b"\x01\0\x05\0\0\x03\x01\x01\0\x03\x03A",
-        b"refused 17\n",
+        17,
     ),
     (
         "a second header of length 6",
         b"\x01\0\x05\0\0\x03\x01\x01\0\x06\0\0\x03\x01\x01\0",
-        b"refused 17\n",
+        17,
     ),
     (
         "an unknown kind cut short",
         b"\x01\0\x05\0\0\x03\x01\x01\0\x02\x04",
-        b"refused 17\n",
+        17,
     ),
-    ("the version alone", b"\x01", b"refused 18\n"),
-    ("a note first", b"\x01\0\x02\x03A", b"refused 18\n"),
+    ("the version alone", b"\x01", 18),
+    ("a note first", b"\x01\0\x02\x03A", 18),
     (
         "a note before the header",
         b"\x01\0\x02\x03A\0\x05\0\0\x03\x01\x01",
-        b"refused 18\n",
+        18,
     ),
     (
         "a unit row first",
         b"\x01\0\x0b\x01\0\0\x01\x01\x01\0\0\0\x02\x58",
-        b"refused 18\n",
+        18,
     ),
     (
         "a cost row first",
         b"\x01\0\x09\x02\x03\x01\x01\x01\0\0\x03\xe8",
-        b"refused 18\n",
+        18,
     ),
-    ("an unknown kind first", b"\x01\0\x01\x04", b"refused 18\n"),
-    (
-        "kind 4",
-        b"\x01\0\x05\0\0\x03\x01\x01\0\x01\x04",
-        b"refused 18\n",
-    ),
-    (
-        "kind 255",
-        b"\x01\0\x05\0\0\x03\x01\x01\0\x02\xff\0",
-        b"refused 18\n",
-    ),
+    ("an unknown kind first", b"\x01\0\x01\x04", 18),
+    ("kind 4", b"\x01\0\x05\0\0\x03\x01\x01\0\x01\x04", 18),
+    ("kind 255", b"\x01\0\x05\0\0\x03\x01\x01\0\x02\xff\0", 18),
     (
         "the header twice",
         b"\x01\0\x05\0\0\x03\x01\x01\0\x05\0\0\x03\x01\x01",
-        b"refused 18\n",
+        18,
     ),
     (
         "a second header of other sizes",
         b"\x01\0\x05\0\0\x03\x01\x01\0\x05\0\0\x02\x01\x01",
-        b"refused 18\n",
+        18,
     ),
     (
         "a second header of no sizes",
         b"\x01\0\x05\0\0\x03\x01\x01\0\x05\0\0\0\x01\x01",
-        b"refused 18\n",
+        18,
     ),
     (
         "a second header behind a note",
         b"\x01\0\x05\0\0\x03\x01\x01\0\x02\x03A\0\x05\0\0\x03\x01\x01",
-        b"refused 18\n",
+        18,
     ),
     (
         "a note with byte 31",
         b"\x01\0\x05\0\0\x03\x01\x01\0\x03\x03A\x1f",
-        b"refused 18\n",
+        18,
     ),
     (
         "a note with byte 127",
         b"\x01\0\x05\0\0\x03\x01\x01\0\x03\x03\x7fA",
-        b"refused 18\n",
+        18,
     ),
     (
         "a note with byte 10",
         b"\x01\0\x05\0\0\x03\x01\x01\0\x02\x03\x0a",
-        b"refused 18\n",
+        18,
     ),
     (
         "sizes of 0 and a second header",
         b"\x01\0\x05\0\0\0\x01\x01\0\x05\0\0\0\x01\x01",
-        b"refused 1\n",
+        1,
     ),
     (
         "hour 25 and a stray byte",
         b"\x01\0\x05\0\0\x03\x01\x01\0\x0b\x01\0\0\x01\x19\x01\0\0\0\x02\x58\0",
-        b"refused 8\n",
+        8,
     ),
     (
         "an unknown kind and hour 25",
         b"\x01\0\x05\0\0\x03\x01\x01\0\x01\x04\0\x0b\x01\0\0\x01\x19\x01\0\0\0\x02\x58",
-        b"refused 18\n",
+        18,
     ),
     (
         "hour 25 cut short",
         b"\x01\0\x05\0\0\x03\x01\x01\0\x0b\x01\0\0\x01\x19\x01\0\0\0\x02",
-        b"refused 17\n",
+        17,
     ),
     (
         "a stray byte behind a cost row",
         b"\x01\0\x05\0\0\x03\x01\x01\0\x09\x02\x03\x01\x01\x01\0\0\x03\xe8\0",
-        b"refused 17\n",
+        17,
     ),
     (
         "station charges too large and a stray byte",
         b"\x01\0\x05\0\0\x03\x01\x01\0\x0b\x01\0\0\x01\x01\x01\0\0\0\0\x01\0\x0b\x01\0\0\x01\x01\x01\x04\0\0\0\x02\0\x09\x02\x03\x01\x01\x01\x7f\xff\xff\xff\0",
-        b"refused 17\n",
+        17,
     ),
 ];
 
 #[test]
 fn forms(rt: HostRuntime) -> Result<(), Fail> {
     for case in &FORMS {
-        check_file(&rt, case.1, false, case.2)?;
+        check_file(&rt, case.1, Err(case.2))?;
     }
-    check_file(&rt, b"\x01\0\x05\0\0\x03\x01\x01\0\x03\x03 ~", true, b"")
+    check_file(&rt, b"\x01\0\x05\0\0\x03\x01\x01\0\x03\x03 ~", Ok(b""))
 }
 
 // A file that is too long is refused before its sizes are looked at.
@@ -546,8 +497,8 @@ fn forms(rt: HostRuntime) -> Result<(), Fail> {
 fn too_long(rt: HostRuntime) -> Result<(), Fail> {
     let mut file = [0; 65_537];
     write_file(&mut file, (0, 1, 1), &[], &[])?;
-    check_file(&rt, &file, false, b"refused 16\n")?;
-    check_front(&rt, &file, 65_536, false, b"refused 1\n")
+    check_file(&rt, &file, Err(16))?;
+    check_front(&rt, &file, 65_536, Err(1))
 }
 
 // Writes a file with so many rows: units of customers 0 and 1 in turn, costs of 1 cent, and then
@@ -570,12 +521,11 @@ fn check_full(
     units: u16,
     costs: u16,
     last: Record,
-    accepted: bool,
-    text: &[u8],
+    expected: Expected,
 ) -> Result<(), Fail> {
     let mut file = [0; 40_000];
     let length = write_full(&mut file, units, costs, last)?;
-    check_front(rt, &file, length, accepted, text)
+    check_front(rt, &file, length, expected)
 }
 
 const TABLES_FULL: &[u8] = b"6 0 256 0 0\n6 1 256 0 0\n6 sum 512 0 0 0 0 0\n";
@@ -587,21 +537,20 @@ fn full_tables(rt: HostRuntime) -> Result<(), Fail> {
     let note = Record::Note(b"full");
     let unit = unit_row((0, 1, 1, 1, 0, 1));
     let cost = cost_row((6, 0, 0, 0, 1));
-    check_full(&rt, 2048, 512, note, true, TABLES_FULL)?;
+    check_full(&rt, 2048, 512, note, Ok(TABLES_FULL))?;
     check_full(
         &rt,
         2047,
         511,
         note,
-        true,
-        b"6 0 255 0 0\n6 1 256 0 0\n6 sum 511 0 0 0 0 0\n",
+        Ok(b"6 0 255 0 0\n6 1 256 0 0\n6 sum 511 0 0 0 0 0\n"),
     )?;
-    check_full(&rt, 2048, 511, cost, true, TABLES_FULL)?;
-    check_full(&rt, 2047, 512, unit, true, TABLES_FULL)?;
-    check_full(&rt, 2048, 512, unit, false, b"refused 10\n")?;
-    check_full(&rt, 2048, 512, cost, false, b"refused 10\n")?;
-    check_full(&rt, 2048, 0, unit, false, b"refused 10\n")?;
-    check_full(&rt, 0, 512, cost, false, b"refused 10\n")
+    check_full(&rt, 2048, 511, cost, Ok(TABLES_FULL))?;
+    check_full(&rt, 2047, 512, unit, Ok(TABLES_FULL))?;
+    check_full(&rt, 2048, 512, unit, Err(10))?;
+    check_full(&rt, 2048, 512, cost, Err(10))?;
+    check_full(&rt, 2048, 0, unit, Err(10))?;
+    check_full(&rt, 0, 512, cost, Err(10))
 }
 
 // A field is looked at before the table, and the table before a sum.
@@ -611,10 +560,10 @@ fn order_at_full_tables(rt: HostRuntime) -> Result<(), Fail> {
     let large = unit_row((0, 1, 1, 1, 0, 2_147_483_647));
     let no_line = cost_row((8, 0, 0, 0, 1));
     let much = cost_row((6, 0, 0, 0, 2_147_483_647));
-    check_full(&rt, 2048, 512, late, false, b"refused 8\n")?;
-    check_full(&rt, 2048, 512, large, false, b"refused 10\n")?;
-    check_full(&rt, 2047, 512, large, false, b"refused 11\n")?;
-    check_full(&rt, 2048, 512, no_line, false, b"refused 8\n")?;
-    check_full(&rt, 2048, 512, much, false, b"refused 10\n")?;
-    check_full(&rt, 2048, 511, much, false, b"refused 11\n")
+    check_full(&rt, 2048, 512, late, Err(8))?;
+    check_full(&rt, 2048, 512, large, Err(10))?;
+    check_full(&rt, 2047, 512, large, Err(11))?;
+    check_full(&rt, 2048, 512, no_line, Err(8))?;
+    check_full(&rt, 2048, 512, much, Err(10))?;
+    check_full(&rt, 2048, 511, much, Err(11))
 }

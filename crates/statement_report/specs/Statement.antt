@@ -10,11 +10,11 @@
 --   lines_of              the rows of all lines of a settled book, or the first refusal
 --   refused_text          the row for a refusal: `refused` and its number
 --   text_of               the rows of all lines of a file's settled book, or the first refusal
---   Told                  whether the file is accepted, and the text
+--   Told                  the refusal that the text tells, none where the file is accepted, and the text
 --   statement_of          what is told of a file
 --   Makes                 what a call that makes a text leaves in its buffer
---   told                  what the call answers beside the text: whether the file is accepted, and the text's length
-use Rattle.std.specs.Prelude.{◌≡◌, ℕ, zero, suc, ◌+◌, Bool, true, false, cond, List, [], ◌++◌, length, replicate, Ok, Err, codes, decimal, Result, nat_lt}
+--   told                  what the call answers beside the text: its length, and the refusal that it tells
+use Rattle.std.specs.Prelude.{◌≡◌, ℕ, zero, suc, ◌+◌, Bool, cond, List, [], ◌++◌, length, replicate, Some, None, Ok, Err, codes, decimal, Option, Result, nat_lt}
 use Rattle.tariff.specs.declared.refusal.Refusal.{Refusal}
 use Rattle.tariff.specs.declared.rows.Sizes.{Sizes}
 use Rattle.tariff.specs.Limits.{contributors}
@@ -66,7 +66,7 @@ abbrev pub refused_text : Refusal → List ℕ
 refused_text e = (codes "refused " ++ decimal (number e)) ++ codes "\n"
 
 abbrev pub Told : Type 0
-Told = Bool × List ℕ
+Told = Option Refusal × List ℕ
 
 abbrev pub by_book : Result State Refusal → Result (List ℕ) Refusal
 by_book (Ok s) = lines_of s
@@ -81,14 +81,14 @@ abbrev pub text_of : List ℕ → Result (List ℕ) Refusal
 text_of bytes = by_sizes (file_sizes bytes) bytes
 
 abbrev pub by_text : Result (List ℕ) Refusal → Told
-by_text (Ok text) = (true, text)
-by_text (Err e) = (false, refused_text e)
+by_text (Ok text) = (None, text)
+by_text (Err e) = (Some e, refused_text e)
 
 abbrev pub statement_of : List ℕ → Told
 statement_of bytes = by_text (text_of bytes)
 
 abbrev pub told : Told → Statement
-told t = record { accepted = t.0; length = length t.1 }
+told t = record { length = length t.1; refusal = t.0 }
 
 -- what a call that makes a text has left: the text from a place on, or the refusal
 
