@@ -13,18 +13,18 @@ use Rattle.book_rules.specs.Run.{State, Outcome, billed, refused, told_bill}
 abbrev pub figured : List ℕ → List ℕ → List ℕ → Remainders → Figures
 figured charges stations credits left = record { charges = charges; stations = stations; credits = credits; short = left.short; over = left.over; stranded = left.stranded }
 
-lengths : (a b c n : ℕ) → a ≡ n → b ≡ n → c ≡ n → ◌≡◌ {A = Lengths} (record { charges = a; stations = b; credits = c }) (record { charges = n; stations = n; credits = n })
+pub lengths : (a b c n : ℕ) → a ≡ n → b ≡ n → c ≡ n → ◌≡◌ {A = Lengths} (record { charges = a; stations = b; credits = c }) (record { charges = n; stations = n; credits = n })
 lengths a b c n p q r = cc
 
 pub figured_same : (x y w x' y' w' : List ℕ) (r : Remainders) → x ≡ x' → y ≡ y' → w ≡ w' → ◌≡◌ {A = Result Figures Refusal} (Ok (figured x y w r)) (Ok (figured x' y' w' r))
 figured_same x y w x' y' w' r p q s = ap (λ k. Ok (figured k y w r)) p ∙ ap (λ k. Ok (figured x' k w r)) q ∙ ap (λ k. Ok (figured x' y' k r)) s
 
 -- what an accepted and a refused bill of a book tell of it
-billed_tells : (b : Result Figures Refusal) (f : Figures) → told_bill b ≡ billed f → Ok f ≡ b
+pub billed_tells : (b : Result Figures Refusal) (f : Figures) → told_bill b ≡ billed f → Ok f ≡ b
 billed_tells (Ok g) f h = cc
 billed_tells (Err e) f h = let z : ◌≡◌ {A = ℕ} 0 1 = cc in absurd (omega arith)
 
-refused_tells : (b : Result Figures Refusal) (e : Refusal) → told_bill b ≡ refused e → Err e ≡ b
+pub refused_tells : (b : Result Figures Refusal) (e : Refusal) → told_bill b ≡ refused e → Err e ≡ b
 refused_tells (Ok g) e h = let z : ◌≡◌ {A = ℕ} 0 1 = cc in absurd (omega arith)
 refused_tells (Err d) e h = cc
 
