@@ -32,6 +32,29 @@ pub(crate) fn fill_units(units: &[UnitRow], uses: Kinds, cell: Cell, column: &mu
     }
 }
 
+// The same for two sets of uses in one pass, since a second pass makes a bill of line 5 12 % slower.
+pub(crate) fn fill_both(
+    units: &[UnitRow],
+    cell: Cell,
+    uses: Kinds,
+    column: &mut [u32],
+    other_uses: Kinds,
+    other_column: &mut [u32],
+)
+    requires known { All (λ u. u.customer < length column.old) units.now }
+    requires other_known { All (λ u. u.customer < length other_column.old) units.now }
+    requires small { all_quantities units.now ≤ most_amount }
+    ensures first { column.new ≡ units_in uses units.now (length column.old) cell }
+    ensures second { other_column.new ≡ units_in other_uses units.now (length other_column.old) cell }
+{
+    column.fill(0);
+    other_column.fill(0);
+    for row in units {
+        add_row(column, uses, cell, row);
+        add_row(other_column, other_uses, cell, row);
+    }
+}
+
 // Adds a column to another.
 pub(crate) fn add_column(onto: &mut [u64], column: &[u32])
     requires places { length onto.old ≡ length column.now }

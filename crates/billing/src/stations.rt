@@ -11,7 +11,7 @@ ghost use Rattle.billing.specs.Parts.{CreditedOn, too_large_on};
 
 use crate::basis::Basis;
 use crate::charges::share_out;
-use crate::columns::{add_column, fill_units};
+use crate::columns::{add_column, fill_both};
 use lines::{Cell, Kinds};
 use sharing::{SharingRule, column_total};
 use tariff::Refusal;
@@ -71,10 +71,16 @@ impl Basis<'_, '_> {
         let customers = usize::from(self.sizes.customers);
         let mut counted = [0; 256];
         let counted = &mut counted[..customers];
-        fill_units(self.units, self.line.counted, cell, counted);
         let mut work = [0; 256];
         let work = &mut work[..customers];
-        fill_units(self.units, Kinds::Only(station), cell, work);
+        fill_both(
+            self.units,
+            cell,
+            self.line.counted,
+            counted,
+            Kinds::Only(station),
+            work,
+        );
         let recovered = charge_stations(pool, column_total(counted) as u64, work, stations);
         if recovered > u128::from(MOST_AMOUNT) {
             return Err(Refusal::StationChargesTooLarge {

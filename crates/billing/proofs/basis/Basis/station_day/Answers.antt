@@ -32,14 +32,14 @@ pub charge_stations-recovered-requires-clause-small : goal.charge_stations-recov
 charge_stations-recovered-requires-clause-small g c =
     let b = c.args.self in
     let m = g.R.SharingRule.meaning c.args.rule.now in
-    let counted-is = units_are b.line.counted b.units.now c.args.cell _ _ _ b.sizes.customers refl c.from-customers.ensures b.sound.customers_few c.fill_units.ensures in
-    let used-is = units_are (Only c.args.station) b.units.now c.args.cell _ _ _ b.sizes.customers refl c.from-customers.ensures b.sound.customers_few c.fill_units-2.ensures in
+    let counted-is = units_are b.line.counted b.units.now c.args.cell _ _ _ b.sizes.customers refl c.from-customers.ensures b.sound.customers_few c.fill_both.ensures.first in
+    let used-is = units_are (Only c.args.station) b.units.now c.args.cell _ _ _ b.sizes.customers refl c.from-customers.ensures b.sound.customers_few c.fill_both.ensures.second in
     let total-is : c.column_total.result ≡ sum (counted m b.line b.sizes b.units.now b.costs.now c.args.cell) = c.column_total.ensures.value ∙ ap sum counted-is in
     let fit = b.sound.costs_fit c.args.cell.area c.args.cell.day c.args.cell.hour c.requires.proper in (
       omega (arith, c.pool-pool.ensures),
       λ k h. omega (
         arith,
-        used_at m b.line b.sizes b.units.now b.costs.now c.args.station c.requires.has c.args.cell c.pool-pool.result c.column_total.result c.fill_units-2.new.column c.pool-pool.ensures total-is used-is k (omega (arith, units_many (Only c.args.station) b.units.now c.args.cell c.fill_units-2.new.column b.sizes.customers used-is)),
+        used_at m b.line b.sizes b.units.now b.costs.now c.args.station c.requires.has c.args.cell c.pool-pool.result c.column_total.result c.fill_both.new.other_column c.pool-pool.ensures total-is used-is k (omega (arith, units_many (Only c.args.station) b.units.now c.args.cell c.fill_both.new.other_column b.sizes.customers used-is)),
         units_le (Only c.args.station) b.units.now c.args.cell k,
         b.sound.units_fit,
       ),
@@ -49,10 +49,10 @@ pub returns-then-recovered-from-clause-answers : goal.returns-then-recovered-fro
 returns-then-recovered-from-clause-answers g c =
     let b = c.args.self in
     let m = g.R.SharingRule.meaning c.args.rule.now in
-    let counted-is = units_are b.line.counted b.units.now c.args.cell _ _ _ b.sizes.customers refl c.from-customers.ensures b.sound.customers_few c.fill_units.ensures in
-    let used-is = units_are (Only c.args.station) b.units.now c.args.cell _ _ _ b.sizes.customers refl c.from-customers.ensures b.sound.customers_few c.fill_units-2.ensures in
+    let counted-is = units_are b.line.counted b.units.now c.args.cell _ _ _ b.sizes.customers refl c.from-customers.ensures b.sound.customers_few c.fill_both.ensures.first in
+    let used-is = units_are (Only c.args.station) b.units.now c.args.cell _ _ _ b.sizes.customers refl c.from-customers.ensures b.sound.customers_few c.fill_both.ensures.second in
     let total-is : c.column_total.result ≡ sum (counted m b.line b.sizes b.units.now b.costs.now c.args.cell) = c.column_total.ensures.value ∙ ap sum counted-is in
-    let R-is = c.charge_stations-recovered.ensures.recovered ∙ recovered_is m b.line b.sizes b.units.now b.costs.now c.args.station c.requires.has c.args.cell c.pool-pool.result c.column_total.result c.fill_units-2.new.column c.pool-pool.ensures total-is used-is in
+    let R-is = c.charge_stations-recovered.ensures.recovered ∙ recovered_is m b.line b.sizes b.units.now b.costs.now c.args.station c.requires.has c.args.cell c.pool-pool.result c.column_total.result c.fill_both.new.other_column c.pool-pool.ensures total-is used-is in
     sym (ap (λ t. answer (cond t (Some (StationChargesTooLarge c.args.cell.area c.args.cell.day)) None) tt) (lt-ltb most_amount (recovered m b.line b.sizes b.units.now b.costs.now c.args.cell) (omega (arith, R-is))))
 
 pub share_out-requires : goal.share_out-requires
@@ -60,18 +60,18 @@ share_out-requires g c =
     let b = c.args.self in
     let m = g.R.SharingRule.meaning c.args.rule.now in
     let law = g.met.R.SharingRule.lawful c.args.rule.now in
-    let counted-is = units_are b.line.counted b.units.now c.args.cell _ _ _ b.sizes.customers refl c.from-customers.ensures b.sound.customers_few c.fill_units.ensures in
-    let used-is = units_are (Only c.args.station) b.units.now c.args.cell _ _ _ b.sizes.customers refl c.from-customers.ensures b.sound.customers_few c.fill_units-2.ensures in
-    not_refused m law b.line b.sizes b.units.now b.costs.now b.sound _ c.args.cell _ _ counted-is (omega arith) (omega (arith, units_many (Only c.args.station) b.units.now c.args.cell c.fill_units-2.new.column b.sizes.customers used-is))
+    let counted-is = units_are b.line.counted b.units.now c.args.cell _ _ _ b.sizes.customers refl c.from-customers.ensures b.sound.customers_few c.fill_both.ensures.first in
+    let used-is = units_are (Only c.args.station) b.units.now c.args.cell _ _ _ b.sizes.customers refl c.from-customers.ensures b.sound.customers_few c.fill_both.ensures.second in
+    not_refused m law b.line b.sizes b.units.now b.costs.now b.sound _ c.args.cell _ _ counted-is (omega arith) (omega (arith, units_many (Only c.args.station) b.units.now c.args.cell c.fill_both.new.other_column b.sizes.customers used-is))
 
 pub returns-clause-answers : goal.returns-clause-answers
 returns-clause-answers g c =
     let b = c.args.self in
     let m = g.R.SharingRule.meaning c.args.rule.now in
-    let counted-is = units_are b.line.counted b.units.now c.args.cell _ _ _ b.sizes.customers refl c.from-customers.ensures b.sound.customers_few c.fill_units.ensures in
-    let used-is = units_are (Only c.args.station) b.units.now c.args.cell _ _ _ b.sizes.customers refl c.from-customers.ensures b.sound.customers_few c.fill_units-2.ensures in
+    let counted-is = units_are b.line.counted b.units.now c.args.cell _ _ _ b.sizes.customers refl c.from-customers.ensures b.sound.customers_few c.fill_both.ensures.first in
+    let used-is = units_are (Only c.args.station) b.units.now c.args.cell _ _ _ b.sizes.customers refl c.from-customers.ensures b.sound.customers_few c.fill_both.ensures.second in
     let total-is : c.column_total.result ≡ sum (counted m b.line b.sizes b.units.now b.costs.now c.args.cell) = c.column_total.ensures.value ∙ ap sum counted-is in
-    let R-is = c.charge_stations-recovered.ensures.recovered ∙ recovered_is m b.line b.sizes b.units.now b.costs.now c.args.station c.requires.has c.args.cell c.pool-pool.result c.column_total.result c.fill_units-2.new.column c.pool-pool.ensures total-is used-is in
+    let R-is = c.charge_stations-recovered.ensures.recovered ∙ recovered_is m b.line b.sizes b.units.now b.costs.now c.args.station c.requires.has c.args.cell c.pool-pool.result c.column_total.result c.fill_both.new.other_column c.pool-pool.ensures total-is used-is in
     sym (ap (λ o. answer o tt) (not_too_large m b c.args.cell (omega (arith, R-is))))
 
 pub returns-clause-credited : goal.returns-clause-credited
@@ -79,11 +79,11 @@ returns-clause-credited g c =
     let b = c.args.self in
     let m = g.R.SharingRule.meaning c.args.rule.now in
     let law = g.met.R.SharingRule.lawful c.args.rule.now in
-    let counted-is = units_are b.line.counted b.units.now c.args.cell _ _ _ b.sizes.customers refl c.from-customers.ensures b.sound.customers_few c.fill_units.ensures in
-    let used-is = units_are (Only c.args.station) b.units.now c.args.cell _ _ _ b.sizes.customers refl c.from-customers.ensures b.sound.customers_few c.fill_units-2.ensures in
+    let counted-is = units_are b.line.counted b.units.now c.args.cell _ _ _ b.sizes.customers refl c.from-customers.ensures b.sound.customers_few c.fill_both.ensures.first in
+    let used-is = units_are (Only c.args.station) b.units.now c.args.cell _ _ _ b.sizes.customers refl c.from-customers.ensures b.sound.customers_few c.fill_both.ensures.second in
     let total-is : c.column_total.result ≡ sum (counted m b.line b.sizes b.units.now b.costs.now c.args.cell) = c.column_total.ensures.value ∙ ap sum counted-is in
-    let R-is = c.charge_stations-recovered.ensures.recovered ∙ recovered_is m b.line b.sizes b.units.now b.costs.now c.args.station c.requires.has c.args.cell c.pool-pool.result c.column_total.result c.fill_units-2.new.column c.pool-pool.ensures total-is used-is in
-    let charged = charge_is m b.line b.sizes b.units.now b.costs.now c.args.station c.requires.has c.args.cell c.pool-pool.result c.column_total.result c.fill_units-2.new.column c.pool-pool.ensures total-is used-is in
+    let R-is = c.charge_stations-recovered.ensures.recovered ∙ recovered_is m b.line b.sizes b.units.now b.costs.now c.args.station c.requires.has c.args.cell c.pool-pool.result c.column_total.result c.fill_both.new.other_column c.pool-pool.ensures total-is used-is in
+    let charged = charge_is m b.line b.sizes b.units.now b.costs.now c.args.station c.requires.has c.args.cell c.pool-pool.result c.column_total.result c.fill_both.new.other_column c.pool-pool.ensures total-is used-is in
     let credits-are = c.share_out.ensures.writes ∙ ap (m c.charge_stations-recovered.result) counted-is ∙ ap (λ R. m R (counted m b.line b.sizes b.units.now b.costs.now c.args.cell)) R-is in
     record {
       stations_added = λ k h. omega (arith, c.charge_stations-recovered.ensures.charged k h, charged k (omega (arith, c.requires.places.0)));
