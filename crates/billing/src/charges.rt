@@ -1,5 +1,5 @@
 // What a line charges: each cell's pool, shared by its counted units.
-ghost use Rattle.std.specs.Prelude.{◌≡◌, ◌^◌, ◌≤◌, [], ◌∷◌, length, None};
+ghost use Rattle.std.specs.Prelude.{◌≡◌, ◌^◌, [], ◌∷◌, length, None};
 ghost use Rattle.sharing.specs.Rule.{share_refusal};
 ghost use Rattle.lines.specs.Cells.{cells};
 ghost use Rattle.billing.specs.Work.{Upto, Proper};
@@ -36,6 +36,7 @@ impl Basis<'_, '_> {
             return 0;
         }
         let customers = usize::from(self.sizes.customers);
+        // no heap: room for the most customers, of which the book's are used
         let mut units = [0; 256];
         let units = &mut units[..customers];
         fill_units(self.units, self.line.counted, cell, units);

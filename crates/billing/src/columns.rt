@@ -32,7 +32,8 @@ pub(crate) fn fill_units(units: &[UnitRow], uses: Kinds, cell: Cell, column: &mu
     }
 }
 
-// The same for two sets of uses in one pass, since a second pass makes a bill of line 5 12 % slower.
+// The same for two sets of uses in one pass: with a second pass the statement of a file that has all its
+// costs on line 5 takes 13.9 ms in place of 12.4.
 pub(crate) fn fill_both(
     units: &[UnitRow],
     cell: Cell,

@@ -7,21 +7,21 @@ mod columns;
 mod remainders;
 mod stations;
 
-ghost use Rattle.std.specs.Prelude.{◌≡◌, ℕ, ◌^◌, ◌≤◌, length, IfOk, Some, sum, MatchResult};
+ghost use Rattle.std.specs.Prelude.{◌≡◌, length, IfOk, Some, sum, MatchResult};
 ghost use Rattle.sharing.specs.Rule.{Meaning, Lawful};
 ghost use Rattle.lines.specs.declared.line.Line.{Line};
 ghost use Rattle.lines.specs.Lines.{line_of};
 ghost use Rattle.lines.specs.Totals.{line_costs};
 ghost use Rattle.lines.specs.Checked.{sizes_of};
 ghost use Rattle.bill_rules.specs.Bill.{bill_refusal, bill, told, column_after};
-ghost use Rattle.bill_rules.specs.Laws.{Balanced, Close, LawfulRows, LawsOfBilling};
+ghost use Rattle.bill_rules.specs.Laws.{Balanced, Close, LawsOfBilling};
 ghost use Rattle.billing.specs.Work.{lengths_of, Billable};
 ghost use Rattle.billing.specs.Parts.{figures_on};
 
 use basis::Basis;
 use bill_rules::Remainders;
 use lines::{BookSizes, Line};
-use remainders::remainders;
+use remainders::{cents, remainders};
 use sharing::SharingRule;
 use tariff::{CostRow, Refusal, UnitRow};
 
@@ -66,6 +66,7 @@ impl Basis<'_, '_> {
         ensures means { R.meaning rule.new ≡ R.meaning rule.old }
     {
         let customers = usize::from(self.sizes.customers);
+        // no heap: room for the most customers, of which the book's are used
         let mut station_work = [0; 256];
         let station_work = &mut station_work[..customers];
         let mut credit_work = [0; 256];
@@ -75,14 +76,21 @@ impl Basis<'_, '_> {
         credits.copy_from_slice(credit_work);
         charges.fill(0);
         let stranded = self.charge_line(rule, charges);
-        Ok(remainders(self.all_costs(), stranded, charges, stations, credits))
+        Ok(remainders(
+            self.all_costs(),
+            stranded,
+            cents(charges),
+            cents(stations),
+            cents(credits),
+        ))
     }
 }
 
 // The bill of a line over the rows of a book, by any sharing rule. It answers what is short, over
 // and stranded, and fills the three columns with each customer's charge (on line 7: what the
 // customer receives), station charge and credit; a refused bill leaves the columns as they were.
-// This is the calculation under the book: a book's own bill is had from a frozen book alone.
+// This is the calculation under the book: a book's own bill is had from a frozen book alone. (Why
+// three columns and no struct: see fill_columns.)
 pub fn line_bill<R: SharingRule>(
     rule: &mut R,
     line: u8,

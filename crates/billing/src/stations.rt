@@ -1,11 +1,11 @@
 // The station part of a line: in each area and on each day station units are charged by the day's
 // costs, and what they pay is credited to the customers by the day's counted units.
-ghost use Rattle.std.specs.Prelude.{◌≡◌, ◌^◌, ◌≤◌, [], ◌∷◌, map, length, Some, sum_by, OnOk, slice_index_or};
+ghost use Rattle.std.specs.Prelude.{◌≡◌, ◌^◌, ◌≤◌, [], ◌∷◌, length, Some, sum_by, OnOk, slice_index_or};
 ghost use Rattle.std.specs.List.{range_with_len};
 ghost use Rattle.tariff.specs.Limits.{most_amount};
 ghost use Rattle.tariff.specs.Refusals.{first_of, answer};
 ghost use Rattle.lines.specs.Cells.{station_days};
-ghost use Rattle.bill_rules.specs.Bill.{station_charge, too_large_at};
+ghost use Rattle.bill_rules.specs.Bill.{station_charge};
 ghost use Rattle.billing.specs.Work.{Adds, Upto, Proper};
 ghost use Rattle.billing.specs.Parts.{CreditedOn, too_large_on};
 
@@ -69,6 +69,7 @@ impl Basis<'_, '_> {
             return Ok(());
         }
         let customers = usize::from(self.sizes.customers);
+        // no heap: room for the most customers, of which the book's are used
         let mut counted = [0; 256];
         let counted = &mut counted[..customers];
         let mut work = [0; 256];

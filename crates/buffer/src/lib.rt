@@ -44,6 +44,8 @@ fn end_within(room: usize, place: usize, size: usize) -> Result<usize, Refusal>
 }
 
 // Writes bytes from a place on; a buffer too short is refused and stays as it was. Answers the place behind them.
+// (Buffer and place are two parameters and no struct, here and below: of a `&mut` slice that a struct lends
+// a contract sees nested pairs at the end and no names.)
 pub fn put_bytes(out: &mut [u8], place: usize, bytes: &[u8]) -> Result<usize, Refusal>
     ensures answers { result ≡ answer (put_refusal (length out.old) place bytes.now) (place + length bytes.now) }
     ensures out { out.new ≡ unless (put_refusal (length out.old) place bytes.now) out.old (pasted out.old place bytes.now) }
@@ -68,8 +70,8 @@ fn digit_count(number: u64) -> usize
     number.max(1).ilog10() as usize + 1
 }
 
-// Fills a part that is as long as the number, from the highest digit on. (The powers go by number and not by `zip`:
-// no proof knows what is written through an adapter of `iter_mut`.)
+// Fills a part that is as long as the number, from the highest digit on. (The powers go by number: of what
+// `iter_mut().zip(powers)` writes a proof knows the length alone, while it knows all that `iter_mut().enumerate()` writes.)
 fn fill_digits(part: &mut [u8], number: u64)
     requires { length part.old ≡ length (decimal number) }
     ensures { part.new ≡ decimal number }

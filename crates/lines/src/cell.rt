@@ -10,7 +10,7 @@ pub struct Place {
     pub hour: u8,
 }
 
-// One area at one time; 0 stands for the whole state, for all days, for all hours.
+// One area at one time; 0 stands for the whole state, for all days, for all hours. (No Place: there 0 stands for nothing.)
 #[derive(Clone, Copy, PartialEq, Eq, Debug)]
 pub struct Cell {
     pub area: u8,

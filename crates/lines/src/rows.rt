@@ -70,7 +70,7 @@ impl BookSizes {
     }
 
     // Refuses the first cost row that is unlawful, by a field or by the sum of the costs alike up to it.
-    // (Not one loop with check_units: there one sum runs on, here each row has another; a trait for both would be longer.)
+    // (No trait for both checks: it would ask each row for its sum, and so add all unit rows anew at each, where one sum runs on.)
     pub fn check_costs(&self, costs: &[CostRow]) -> Result<(), Refusal>
         ensures { result ≡ answer (first_of (cost_faults (sizes_of self.now) costs.now)) tt }
     {

@@ -8,6 +8,7 @@ use crate::line::Kinds;
 use tariff::{CostRow, UnitRow};
 
 // A row that has a place in time and area, an amount, and a kind: a unit row's use, a cost row's line.
+// (Both impls make the place alike: rows keep flat fields, as the file has them, and hold no Place.)
 pub trait Row {
     ghost kinded: { Self → ℕ };
 

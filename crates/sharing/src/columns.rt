@@ -1,7 +1,8 @@
 // Columns: one figure a customer, of units or of cents.
 ghost use Rattle.std.specs.Prelude.{◌≡◌, ℕ, ◌*◌, ◌≤◌, length, sum_by};
 
-// A figure of a column: a number of 32 or of 64 bits.
+// A figure of a column: a number of 32 or of 64 bits. (Two impls by hand: the gate refuses the impls
+// of a macro, and `MAX` and the bits are in no trait.)
 pub trait Figure: Copy {
     ghost amounts: { Self → ℕ };
 

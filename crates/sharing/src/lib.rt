@@ -4,8 +4,8 @@
 mod columns;
 mod names;
 
-ghost use Rattle.std.specs.Prelude.{◌≡◌, ◌*◌, ◌/◌, ◌^◌, ◌<◌, ◌≤◌, length, sum};
-ghost use Rattle.tariff.specs.Limits.{most_amount, most_customers};
+ghost use Rattle.std.specs.Prelude.{◌≡◌, ◌*◌, ◌/◌, ◌≤◌, length, sum};
+ghost use Rattle.tariff.specs.Limits.{most_amount};
 ghost use Rattle.tariff.specs.Refusals.{answer, unless};
 ghost use Rattle.sharing.specs.Rule.{Meaning, Lawful, share_refusal, division};
 ghost use Rattle.sharing.specs.Rules.{down, running};
@@ -18,7 +18,8 @@ use tariff::Refusal;
 use tariff::limits::{MOST_AMOUNT, MOST_CUSTOMERS};
 
 // A rule by which a pool is shared. Its meaning gives a share for each customer's units and keeps
-// the laws of specs/Rule.antt; a rule may have a state, but no call changes what it means.
+// the laws of specs/Rule.antt; a rule may have a state, but no call changes what it means. (Each
+// function that lends a rule on says so again: no type tells that a lent rule keeps its meaning.)
 pub trait SharingRule {
     ghost meaning: { Self → Meaning };
 

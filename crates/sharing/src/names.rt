@@ -15,7 +15,7 @@ pub enum RuleName {
 }
 
 impl RuleName {
-    // The rule that a word names, if it names one.
+    // The rule that a word names, if it names one. (No FromStr: nobody asks why a word names no rule.)
     pub fn named(word: &str) -> Option<RuleName>
         ensures { Names word.now result }
     {
@@ -44,6 +44,7 @@ impl SharingRule for RuleName {
     ghost lawful = { named_lawful };
 
     fn share(&mut self, pool: u32, units: &[u32], column: &mut [u32]) -> Result<(), Refusal> {
+        // a match: an enum of all rules needs no dyn
         match self {
             RuleName::Down => Down.share(pool, units, column),
             RuleName::Running => Running.share(pool, units, column),

@@ -1,5 +1,5 @@
 // The nineteen reasons for which a call is refused.
-ghost use Rattle.std.specs.Prelude.{◌≡◌, ℕ, Some};
+ghost use Rattle.std.specs.Prelude.{◌≡◌, Some};
 ghost use Rattle.tariff.specs.Refusals.{number, reason, told, table_word, told_words, words};
 
 use std::fmt;
@@ -47,7 +47,7 @@ pub enum Refusal {
 }
 
 impl Refusal {
-    // The published number, 1 to 19.
+    // The published number, 1 to 19. (By a match: an enum whose cases have fields has no numbers of its own.)
     pub fn number(self) -> u8
         ensures { result ≡ number self }
     {

@@ -27,17 +27,14 @@ over_is stations credits S C over p q e = omega (arith, ints)
 pub station_part-requires-clause-room : goal.station_part-requires-clause-room
 station_part-requires-clause-room g c = (front_zeros c.from-customers.result 256, front_zeros c.from-customers.result 256)
 
-pub remainders-requires-clause-small : goal.remainders-requires-clause-small
-remainders-requires-clause-small g c =
-    let credited = c.in_ok-station_part.ensures.credited in
-    let blank = zeros (length c.args.charges.now) c.fill.new.self (c.fill.ensures.after (λ y e. e)) in (
-      λ k h. omega (arith, c.charge_line-stranded.ensures.charged.charges_rise k (omega arith), blank k (omega arith)),
-      raised _ c.station_part.new.stations c.copy_from_slice.new.self _ _ c.copy_from_slice.ensures.after (lit≤ tt) c.station_part.auto.stations (front_zeros c.from-customers.result 256) credited.stations_rise,
-      raised _ c.station_part.new.credits c.copy_from_slice-2.new.self _ _ c.copy_from_slice-2.ensures.after (lit≤ tt) c.station_part.auto.credits (front_zeros c.from-customers.result 256) credited.credits_rise,
-    )
+pub cents-requires-2-clause-small : goal.cents-requires-2-clause-small
+cents-requires-2-clause-small g c = raised _ c.station_part.new.stations c.copy_from_slice.new.self _ _ c.copy_from_slice.ensures.after (lit≤ tt) c.station_part.auto.stations (front_zeros c.from-customers.result 256) c.in_ok-station_part.ensures.credited.stations_rise
 
-pub remainders-requires-clause-bounds : goal.remainders-requires-clause-bounds
-remainders-requires-clause-bounds g c =
+pub cents-requires-3-clause-small : goal.cents-requires-3-clause-small
+cents-requires-3-clause-small g c = raised _ c.station_part.new.credits c.copy_from_slice-2.new.self _ _ c.copy_from_slice-2.ensures.after (lit≤ tt) c.station_part.auto.credits (front_zeros c.from-customers.result 256) c.in_ok-station_part.ensures.credited.credits_rise
+
+pub remainders-requires-clause-costs : goal.remainders-requires-clause-costs
+remainders-requires-clause-costs g c =
     let b = c.args.self in
     (omega (arith, c.all_costs.ensures, line_costs_within b.line b.sizes b.units.now b.costs.now b.sound), omega (arith, c.charge_line-stranded.ensures.charged.stranded_rises))
 
@@ -67,8 +64,8 @@ returns g c =
     let result : c.remainders.result ≡ record { short = f.short; over = f.over; stranded = f.stranded } =
     c.remainders.ensures
     ∙ left _ _ _ _ _ _
-    (short_is _ _ _ _ _ _ f.short c.all_costs.ensures stranded-is (ap sum charges-are) (charges_balance m law l z us cs b.sound.costs_once))
-    (over_is _ _ _ _ f.over (ap sum stations-are) (ap sum credits-are) (credits_balance m law l z us cs))
+    (short_is _ _ _ _ _ _ f.short c.all_costs.ensures stranded-is (c.cents.ensures.value ∙ ap sum charges-are) (charges_balance m law l z us cs b.sound.costs_once))
+    (over_is _ _ _ _ f.over (c.cents-2.ensures.value ∙ ap sum stations-are) (c.cents-3.ensures.value ∙ ap sum credits-are) (credits_balance m law l z us cs))
     (ap pos stranded-is) in
     record {
       answers = ap Ok result ∙ sym (ap (λ o. told (answer o f)) none);
