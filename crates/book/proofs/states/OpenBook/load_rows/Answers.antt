@@ -1,7 +1,7 @@
 use Rattle.std.proofs.Common.{ℕ, ◌+◌, length, None, refl, sym, ap, ◌∙◌, subst, arith}
 use Rattle.unit_file.specs.Records.{item_of}
 use Rattle.book_rules.specs.Run.{opened}
-use Rattle.book.specs.declared.load.RefusedBy.TheVariants.{File, Book}
+use Rattle.book.specs.declared.load.RefusedLoad.TheVariants.{File, Book}
 use Rattle.book.specs.Load.{reported, call_for, Took, load_from}
 use Rattle.book.specs.Shown.{open_book, pass_of}
 use Rattle.book.proofs.Loads.{Sofar, at_fault, at_end_is, went_on, at_refusal, done_by_same, few_rows, found_fault, found_record, found_none, stands, stopped_by, took, ended_is}
