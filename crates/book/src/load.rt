@@ -119,15 +119,13 @@ impl OpenBook {
         requires inside { reader.place ≤ length reader.bytes.now }
         ensures { Done (opened (open_book self.old) units.old costs.old marks.now) (load_from (length reader.entry.bytes.now) reader.entry.bytes.now (pass_of pass.now) (opened (open_book self.old) units.old costs.old marks.now) reader.entry.place 0) (opened (open_book self.new) units.new costs.new marks.now) (ended report.new.rows report.new.place result) }
     {
-        loop {
-            report.place = reader.place();
-            let found = reader.next_in_order().map_err(RefusedLoad::File)?;
-            let Some(record) = found else {
-                return Ok(());
-            };
+        report.place = reader.place();
+        while let Some(record) = reader.next_in_order().map_err(RefusedLoad::File)? {
             let taken = self.load_record(units, costs, marks, pass, record);
             report.rows += taken.map_err(RefusedLoad::Book)?;
+            report.place = reader.place();
         }
+        Ok(())
     }
 
     // Loads a file behind a report in which nothing has been done.
