@@ -36,6 +36,7 @@ impl From<Refusal> for BillError {
     }
 }
 
+// No enum for the errors of all crates: its `From<E>` and `From<AllocError>` would overlap.
 impl From<AllocError> for BillError {
     ghost from_gives = { λ _ e. e ≡ OutOfMemory };
 

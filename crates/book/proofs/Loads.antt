@@ -15,11 +15,10 @@ use Rattle.unit_file.proofs.Walk.{advances, past_end, was_end}
 use Rattle.book_rules.specs.Machine.{Pass}
 use Rattle.book_rules.specs.Run.{State, Call, step, final}
 use Rattle.book.specs.declared.load.LoadReport.{LoadReport}
-use Rattle.book.specs.declared.load.RefusedBy.{RefusedBy}
-use Rattle.book.specs.declared.load.RefusedBy.TheVariants.{File, Book as TheBook}
 use Rattle.book.specs.declared.load.RefusedLoad.{RefusedLoad}
+use Rattle.book.specs.declared.load.RefusedLoad.TheVariants.{File, Book as TheBook}
 use Rattle.book.proofs.Outcomes.{same_error}
-use Rattle.book.specs.Load.{Loading, refused_by, reported, ended, stopped, whole, call_for, refusal_in, first, load_call, load_item, load_record, load_from, rows_or, Took, Done, same_sizes, header_in, load_sizes, load_header, load_refusal, load_file, load_unless, load_of}
+use Rattle.book.specs.Load.{Loading, reported, ended, stopped, whole, call_for, refusal_in, first, load_call, load_item, load_record, load_from, rows_or, Took, Done, same_sizes, header_in, load_sizes, load_header, load_refusal, load_file, load_unless, load_of}
 
 -- how many records are allowed for does not matter, if there are enough
 
@@ -85,8 +84,8 @@ module _ (bs : List ℕ) (p : Pass) (start : State) (all : Loading) (now : State
     makes = sym (ap (λ (x : Loading). final start x.calls) e ∙ ap (λ cs. final start (sofar.made ++ cs)) none ∙ ap (final start) (append-nil sofar.made) ∙ sofar.ends);
   }
 
-  pub at_fault : (e : Refusal) → ordered_at bs place ≡ Err e → Done start all now (reported rows place (Some (refused_by File e)))
-  at_fault e h = stopped_at (stopped rows e place File) refl (left (Err e) h)
+  pub at_fault : (e : Refusal) → ordered_at bs place ≡ Err e → Done start all now (reported rows place (Some (File e)))
+  at_fault e h = stopped_at (stopped rows (File e) place) refl (left (Err e) h)
 
   pub at_end_is : ordered_at bs place ≡ Ok None → Done start all now (reported rows place None)
   at_end_is h =
@@ -145,21 +144,21 @@ module _ (bs : List ℕ) (p : Pass) (start : State) (all : Loading) (now : State
       by None e (same, none) = skipped item h e after n same (cc)
       by (Some call) e (same, count) = posted item call h e (refusal_in (step now call).answer) refl after n same count
 
-  pub at_refusal : (item : Item) (e : Refusal) (after : State) → ordered_at bs place ≡ Ok (Some item) → Took (call_for p item) now (Err e) after → Done start all after (reported rows place (Some (refused_by TheBook e)))
+  pub at_refusal : (item : Item) (e : Refusal) (after : State) → ordered_at bs place ≡ Ok (Some item) → Took (call_for p item) now (Err e) after → Done start all after (reported rows place (Some (TheBook e)))
   unfolding after_calls
   at_refusal item e after h took = by (call_for p item) refl took
     where
-      last : (call : Call) → call_for p item ≡ Some call → after ≡ (step now call).state → (o : Option Refusal) → refusal_in (step now call).answer ≡ o → Err e ≡ rows_or o → Done start all after (reported rows place (Some (refused_by TheBook e)))
+      last : (call : Call) → call_for p item ≡ Some call → after ≡ (step now call).state → (o : Option Refusal) → refusal_in (step now call).answer ≡ o → Err e ≡ rows_or o → Done start all after (reported rows place (Some (TheBook e)))
       last call is same None refusal count = let z : ◌≡◌ {A = ℕ} 0 1 = cc in absurd (omega arith)
       last call is same (Some x) refusal count =
           let which : e ≡ x = cc in
           let l = asked item call (Some x) h is refusal in
           record {
-            reports = ap (λ (y : Refusal). reported rows place (Some (refused_by TheBook y))) which ∙ ap (λ (y : Loading). y.report) (sym l);
+            reports = ap (λ (y : Refusal). reported rows place (Some (TheBook y))) which ∙ ap (λ (y : Loading). y.report) (sym l);
             makes = same ∙ sym (called call) ∙ ap (λ (y : Loading). final start y.calls) (sym l);
           }
 
-      by : (o : Option Call) → call_for p item ≡ o → Took o now (Err e) after → Done start all after (reported rows place (Some (refused_by TheBook e)))
+      by : (o : Option Call) → call_for p item ≡ o → Took o now (Err e) after → Done start all after (reported rows place (Some (TheBook e)))
       by None is (same, none) = let z : ◌≡◌ {A = ℕ} 0 1 = cc in absurd (omega arith)
       by (Some call) is (same, count) = last call is same (refusal_in (step now call).answer) refl count
 
@@ -178,20 +177,20 @@ few_rows (Some call) s n after (same, count) = by (refusal_in (step s call).answ
 
 -- what a step of a load answered, where its refusal is told as given by the file or by the book
 
-abbrev Told : {X : Type 0} → RefusedBy → Result X Refusal → Result X RefusedLoad → Type 0
-Told {X} by r m = MatchResult r (λ (z : X). m ≡ Ok z) (λ e. IsErrAnd m (λ d. d ≡ refused_by by e))
+abbrev Told : {X : Type 0} → (Refusal → RefusedLoad) → Result X Refusal → Result X RefusedLoad → Type 0
+Told {X} by r m = MatchResult r (λ (z : X). m ≡ Ok z) (λ e. IsErrAnd m (λ d. d ≡ by e))
 
-abbrev pub Went : {X : Type 0} → RefusedBy → Result X Refusal → X → Type 0
+abbrev pub Went : {X : Type 0} → (Refusal → RefusedLoad) → Result X Refusal → X → Type 0
 Went by r y = Told by r (Ok y)
 
-abbrev pub Stopped : {X : Type 0} → RefusedBy → Result X Refusal → RefusedLoad → Type 0
+abbrev pub Stopped : {X : Type 0} → (Refusal → RefusedLoad) → Result X Refusal → RefusedLoad → Type 0
 Stopped by r x = Told by r (Err x)
 
-pub went : {X : Type 0} (by : RefusedBy) (r : Result X Refusal) (y : X) → Went by r y → r ≡ Ok y
+pub went : {X : Type 0} (by : Refusal → RefusedLoad) (r : Result X Refusal) (y : X) → Went by r y → r ≡ Ok y
 went by (Ok z) y h = let e : y ≡ z = cc in ap Ok (sym e)
 went by (Err e) y h = absurd h
 
-pub stopped_by : {X : Type 0} (by : RefusedBy) (r : Result X Refusal) (x : RefusedLoad) → Stopped by r x → (e : Refusal) × (r ≡ Err e) × (x ≡ refused_by by e)
+pub stopped_by : {X : Type 0} (by : Refusal → RefusedLoad) (r : Result X Refusal) (x : RefusedLoad) → Stopped by r x → (e : Refusal) × (r ≡ Err e) × (x ≡ by e)
 stopped_by by (Ok z) x h = let no : ◌≡◌ {A = ℕ} 0 1 = cc in absurd (omega arith)
 stopped_by by (Err e) x h = (e, refl, h)
 
@@ -207,7 +206,7 @@ module _ (bs bs' : List ℕ) (place : ℕ) (r : Result (Option Record) Refusal) 
   answered : (k : Result (Option Record) Refusal) → r ≡ k → ordered_at bs place ≡ said k
   answered k is = ap (λ (b : List ℕ). ordered_at b place) (sym same) ∙ sym reads ∙ ap said is
 
-  pub found_fault : (x : RefusedLoad) → Stopped File r x → (e : Refusal) × (ordered_at bs place ≡ Err e) × (x ≡ refused_by File e)
+  pub found_fault : (x : RefusedLoad) → Stopped File r x → (e : Refusal) × (ordered_at bs place ≡ Err e) × (x ≡ File e)
   found_fault x h = let t = stopped_by File r x h in (t.0, answered (Err t.0) t.1, t.2)
 
   pub found_record : (o : Option Record) (x : Record) → Went File r o → o ≡ Some x → ordered_at bs place ≡ Ok (Some (item_of x))
@@ -222,7 +221,7 @@ stands bs bs' place next e same = e ∙ ap (λ (b : List ℕ). place_in_order b 
 -- a load of a file that begins with a header
 pub load_is : (s : State) (p : Pass) (bs bs' : List ℕ) (place next : ℕ) (o : Option Record) (z y : Sizes) (b : Bool) → load_refusal s p ≡ None → open_refusal bs ≡ None → bs' ≡ bs → place ≡ 1 →
     said (Ok o) ≡ record_at bs' place → next ≡ next_place bs' place → Ok z ≡ header_in (option_map item_of o) → y ≡ s.book.sizes → b ≡ same_sizes z y →
-    load_of s p bs ≡ cond b (load_from (length bs) bs p s next 0) (stopped 0 FieldOutOfRange 1 TheBook)
+    load_of s p bs ≡ cond b (load_from (length bs) bs p s next 0) (stopped 0 (TheBook FieldOutOfRange) 1)
 load_is s p bs bs' place next o z y b none begins same one read stood sizes book alike =
     let here : record_at bs 1 ≡ said (Ok o) = ap (λ k. record_at bs k) (sym one) ∙ ap (λ (l : List ℕ). record_at l place) (sym same) ∙ sym read in
     let then : next_place bs 1 ≡ next = ap (λ k. next_place bs k) (sym one) ∙ ap (λ (l : List ℕ). next_place l place) (sym same) ∙ sym stood in
@@ -230,24 +229,24 @@ load_is s p bs bs' place next o z y b none begins same one read stood sizes book
     ∙ ap (λ (x : Option Refusal). load_file x bs p s) begins
     ∙ ap (λ (x : Result (Option Item) Refusal). load_header x bs p s) here
     ∙ ap (λ (x : Result Sizes Refusal). load_sizes x bs p s) (sym sizes)
-    ∙ ap (λ (x : Sizes). cond (same_sizes z x) (load_from (length bs) bs p s (next_place bs 1) 0) (stopped 0 FieldOutOfRange 1 TheBook)) (sym book)
-    ∙ ap (λ x. cond x (load_from (length bs) bs p s (next_place bs 1) 0) (stopped 0 FieldOutOfRange 1 TheBook)) (sym alike)
-    ∙ ap (λ k. cond b (load_from (length bs) bs p s k 0) (stopped 0 FieldOutOfRange 1 TheBook)) then
+    ∙ ap (λ (x : Sizes). cond (same_sizes z x) (load_from (length bs) bs p s (next_place bs 1) 0) (stopped 0 (TheBook FieldOutOfRange) 1)) (sym book)
+    ∙ ap (λ x. cond x (load_from (length bs) bs p s (next_place bs 1) 0) (stopped 0 (TheBook FieldOutOfRange) 1)) (sym alike)
+    ∙ ap (λ k. cond b (load_from (length bs) bs p s k 0) (stopped 0 (TheBook FieldOutOfRange) 1)) then
 
 -- a load that is one by another term
 pub done_load : (start : State) (all all' : Loading) (now : State) (r : LoadReport) → all' ≡ all → Done start all now r → Done start all' now r
 done_load start all all' now r e d = record { reports = d.reports ∙ ap (λ (l : Loading). l.report) (sym e); makes = d.makes ∙ ap (λ (l : Loading). final start l.calls) (sym e) }
 
 -- a report that a refusal ends
-pub ended_is : (rows rows' place place' : ℕ) (f : Result (Unit {0}) RefusedLoad) (x : RefusedLoad) (e : Refusal) (by : RefusedBy) → rows ≡ rows' → place ≡ place' → IsErrAnd f (λ d. d ≡ x) → x ≡ refused_by by e →
-    ended rows place f ≡ reported rows' place' (Some (refused_by by e))
+pub ended_is : (rows rows' place place' : ℕ) (f : Result (Unit {0}) RefusedLoad) (x : RefusedLoad) (e : Refusal) (by : Refusal → RefusedLoad) → rows ≡ rows' → place ≡ place' → IsErrAnd f (λ d. d ≡ x) → x ≡ by e →
+    ended rows place f ≡ reported rows' place' (Some (by e))
 ended_is rows rows' place place' f x e by many there same is =
     ap (λ (k : Result (Unit {0}) RefusedLoad). ended rows place k) (same_error f x same)
     ∙ ap (λ n. reported n place (Some x)) many ∙ ap (λ n. reported rows' n (Some x)) there ∙ ap (λ (y : RefusedLoad). reported rows' place' (Some y)) is
 
 -- a load that stops without a call leaves all as it was
-pub done_stopped : (start : State) (all : Loading) (rows rows' place place' : ℕ) (f : Result (Unit {0}) RefusedLoad) (x : RefusedLoad) (e : Refusal) (by : RefusedBy) → rows ≡ rows' → place ≡ place' → IsErrAnd f (λ d. d ≡ x) → x ≡ refused_by by e →
-    all ≡ stopped rows' e place' by → Done start all start (ended rows place f)
+pub done_stopped : (start : State) (all : Loading) (rows rows' place place' : ℕ) (f : Result (Unit {0}) RefusedLoad) (x : RefusedLoad) (e : Refusal) (by : Refusal → RefusedLoad) → rows ≡ rows' → place ≡ place' → IsErrAnd f (λ d. d ≡ x) → x ≡ by e →
+    all ≡ stopped rows' (by e) place' → Done start all start (ended rows place f)
 done_stopped start all rows rows' place place' f x e by many there same is h =
     record { reports = ended_is rows rows' place place' f x e by many there same is ∙ ap (λ (l : Loading). l.report) (sym h); makes = ap (λ (l : Loading). final start l.calls) (sym h) }
 
@@ -261,19 +260,19 @@ pub first_is : (bs bs' : List ℕ) (place : ℕ) (r : Result (Option Record) Ref
 first_is bs bs' place r same one read = ap (λ k. record_at bs k) (sym one) ∙ ap (λ (l : List ℕ). record_at l place) (sym same) ∙ sym read
 
 module _ (s : State) (p : Pass) (bs : List ℕ) where
-  pub refused_is : (e : Refusal) → load_refusal s p ≡ Some e → load_of s p bs ≡ stopped 0 e 0 TheBook
+  pub refused_is : (e : Refusal) → load_refusal s p ≡ Some e → load_of s p bs ≡ stopped 0 (TheBook e) 0
   refused_is e h = ap (λ (x : Option Refusal). load_unless x bs p s) h
 
   module _ (none : load_refusal s p ≡ None) where
-    pub no_file_is : (e : Refusal) → open_refusal bs ≡ Some e → load_of s p bs ≡ stopped 0 e 0 File
+    pub no_file_is : (e : Refusal) → open_refusal bs ≡ Some e → load_of s p bs ≡ stopped 0 (File e) 0
     no_file_is e h = ap (λ (x : Option Refusal). load_unless x bs p s) none ∙ ap (λ (x : Option Refusal). load_file x bs p s) h
 
     module _ (begins : open_refusal bs ≡ None) (first : Result (Option Item) Refusal) (here : record_at bs 1 ≡ first) where
       headed_is : load_of s p bs ≡ load_header first bs p s
       headed_is = ap (λ (x : Option Refusal). load_unless x bs p s) none ∙ ap (λ (x : Option Refusal). load_file x bs p s) begins ∙ ap (λ (x : Result (Option Item) Refusal). load_header x bs p s) here
 
-      pub no_record_is : (e : Refusal) → first ≡ Err e → load_of s p bs ≡ stopped 0 e 1 File
+      pub no_record_is : (e : Refusal) → first ≡ Err e → load_of s p bs ≡ stopped 0 (File e) 1
       no_record_is e h = headed_is ∙ ap (λ (x : Result (Option Item) Refusal). load_header x bs p s) h
 
-      pub no_header_is : (o : Option Item) (e : Refusal) → first ≡ Ok o → header_in o ≡ Err e → load_of s p bs ≡ stopped 0 e 1 File
+      pub no_header_is : (o : Option Item) (e : Refusal) → first ≡ Ok o → header_in o ≡ Err e → load_of s p bs ≡ stopped 0 (File e) 1
       no_header_is o e h bad = headed_is ∙ ap (λ (x : Result (Option Item) Refusal). load_header x bs p s) h ∙ ap (λ (x : Result Sizes Refusal). load_sizes x bs p s) bad

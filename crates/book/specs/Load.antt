@@ -1,6 +1,6 @@
 -- Loading a unit file into an open book: the posts and costs that it makes, and what it reports.
 --   report_number   the refusal's number, 0 if there is none
---   refused_by      a refusal, and who gave it
+--   refusal_of      the refusal of the file or of the book
 --   reported        a report: the rows posted, the byte place reached, what stopped the load if anything did
 --   report_refusal  the refusal of a report, if it has one
 --   ended           the report of the rows and the place so far, by what the load answered
@@ -27,22 +27,22 @@ use Rattle.unit_file.specs.Reading.{open_refusal, record_at, next_place, ordered
 use Rattle.book_rules.specs.Machine.{Pass, unmarked, valid, short_tables}
 use Rattle.book_rules.specs.Run.{State, Call, post, add_cost, Answer, accepted, gave, row, froze, stayed_open, reopened, billed, refused, not_offered, step, final}
 use Rattle.book.specs.declared.load.LoadReport.{LoadReport}
-use Rattle.book.specs.declared.load.RefusedBy.{RefusedBy}
-use Rattle.book.specs.declared.load.RefusedBy.TheVariants.{File, Book as TheBook}
 use Rattle.book.specs.declared.load.RefusedLoad.{RefusedLoad}
+use Rattle.book.specs.declared.load.RefusedLoad.TheVariants.{File, Book as TheBook}
 
 abbrev pub report_number : Option Refusal → ℕ
 report_number None = 0
 report_number (Some e) = number e
 
-abbrev pub refused_by : RefusedBy → Refusal → RefusedLoad
-refused_by by e = record { refusal = e; by = by }
+abbrev pub refusal_of : RefusedLoad → Refusal
+refusal_of (File e) = e
+refusal_of (TheBook e) = e
 
 abbrev pub reported : ℕ → ℕ → Option RefusedLoad → LoadReport
 reported rows place why = record { rows = rows; place = place; refused = why }
 
 abbrev pub report_refusal : LoadReport → Option Refusal
-report_refusal r = option_map (λ x. x.refusal) r.refused
+report_refusal r = option_map refusal_of r.refused
 
 abbrev pub ended : ℕ → ℕ → Result (Unit {0}) RefusedLoad → LoadReport
 ended rows place (Ok _) = reported rows place None
@@ -53,8 +53,8 @@ pub record Loading : Type 0 where
   pub report : LoadReport
 
 -- a load that stops without a call
-abbrev pub stopped : ℕ → Refusal → ℕ → RefusedBy → Loading
-stopped rows e place by = record { calls = []; report = reported rows place (Some (refused_by by e)) }
+abbrev pub stopped : ℕ → RefusedLoad → ℕ → Loading
+stopped rows x place = record { calls = []; report = reported rows place (Some x) }
 
 abbrev pub whole : ℕ → List ℕ → Loading
 whole rows bytes = record { calls = []; report = reported rows (length bytes) None }
@@ -83,14 +83,14 @@ first call l = record { calls = call ∷ l.calls; report = l.report }
 -- an accepted call is one row more; a refused one is the last
 abbrev pub load_call : Option Refusal → Call → State → ℕ → ℕ → (State → ℕ → Loading) → Loading
 load_call None call after place rows go = first call (go after (rows + 1))
-load_call (Some e) call after place rows go = first call (stopped rows e place TheBook)
+load_call (Some e) call after place rows go = first call (stopped rows (TheBook e) place)
 
 abbrev pub load_item : Option Call → State → ℕ → ℕ → (State → ℕ → Loading) → Loading
 load_item None s place rows go = go s rows
 load_item (Some call) s place rows go = load_call (refusal_in (step s call).answer) call (step s call).state place rows go
 
 abbrev pub load_record : Result (Option Item) Refusal → List ℕ → Pass → State → ℕ → ℕ → (State → ℕ → Loading) → Loading
-load_record (Err e) bytes p s place rows go = stopped rows e place File
+load_record (Err e) bytes p s place rows go = stopped rows (File e) place
 load_record (Ok None) bytes p s place rows go = whole rows bytes
 load_record (Ok (Some item)) bytes p s place rows go = load_item (call_for p item) s place rows go
 
@@ -126,12 +126,12 @@ header_in (Some (note n)) = Err (RecordKind 1)
 
 -- its sizes have to be the book's, and the rows come behind it
 abbrev pub load_sizes : Result Sizes Refusal → List ℕ → Pass → State → Loading
-load_sizes (Err e) bytes p s = stopped 0 e 1 File
+load_sizes (Err e) bytes p s = stopped 0 (File e) 1
 load_sizes (Ok z) bytes p s =
-    cond (same_sizes z s.book.sizes) (load_from (length bytes) bytes p s (next_place bytes 1) 0) (stopped 0 FieldOutOfRange 1 TheBook)
+    cond (same_sizes z s.book.sizes) (load_from (length bytes) bytes p s (next_place bytes 1) 0) (stopped 0 (TheBook FieldOutOfRange) 1)
 
 abbrev pub load_header : Result (Option Item) Refusal → List ℕ → Pass → State → Loading
-load_header (Err e) bytes p s = stopped 0 e 1 File
+load_header (Err e) bytes p s = stopped 0 (File e) 1
 load_header (Ok found) bytes p s = load_sizes (header_in found) bytes p s
 
 abbrev pub load_refusal : State → Pass → Option Refusal
@@ -141,11 +141,11 @@ load_refusal s p = first_of (
 
 -- a file that is none is refused at byte 0
 abbrev pub load_file : Option Refusal → List ℕ → Pass → State → Loading
-load_file (Some e) bytes p s = stopped 0 e 0 File
+load_file (Some e) bytes p s = stopped 0 (File e) 0
 load_file None bytes p s = load_header (record_at bytes 1) bytes p s
 
 abbrev pub load_unless : Option Refusal → List ℕ → Pass → State → Loading
-load_unless (Some e) bytes p s = stopped 0 e 0 TheBook
+load_unless (Some e) bytes p s = stopped 0 (TheBook e) 0
 load_unless None bytes p s = load_file (open_refusal bytes) bytes p s
 
 abbrev pub load_of : State → Pass → List ℕ → Loading

@@ -25,7 +25,8 @@ impl FrozenBook {
 
     // The bill of a line by a rule, from the rows that the book counts: each customer's charge (on
     // line 7: what the customer receives), station charge and credit in the columns, and what is
-    // short, over and stranded. A refused bill leaves the columns as they were.
+    // short, over and stranded. A refused bill leaves the columns as they were. Three columns stay
+    // three parameters (see billing's fill_columns).
     pub fn bill<R: SharingRule>(
         &self,
         rule: &mut R,

@@ -9,7 +9,6 @@ ghost use Rattle.book.specs.Told.{told, told_pass};
 use crate::marks::{check_marks, mark_of};
 use crate::states::{FrozenBook, OpenBook, Pass};
 use tariff::Refusal;
-use tariff::limits::LAST_PASS_NUMBER;
 
 impl OpenBook {
     // Gives a contributor a pass with the next pass number, which becomes the contributor's mark.
@@ -19,10 +18,9 @@ impl OpenBook {
         if mark_of(marks, contributor)? != 0 {
             return Err(Refusal::AlreadyAdmitted);
         }
-        if self.numbers.last_pass == LAST_PASS_NUMBER {
-            return Err(Refusal::PassNumbersUsedUp);
-        }
-        let mark = self.numbers.last_pass + 1;
+        // the last pass number is the last of its type
+        let next = self.numbers.last_pass.checked_add(1);
+        let mark = next.ok_or(Refusal::PassNumbersUsedUp)?;
         self.numbers.last_pass = mark;
         marks[contributor] = mark;
         Ok(Pass {

@@ -4,8 +4,7 @@ ghost use Rattle.std.specs.Option.{option_map};
 ghost use Rattle.tariff.specs.Refusals.{answer};
 ghost use Rattle.unit_file.specs.Records.{item_of};
 ghost use Rattle.book_rules.specs.Run.{opened};
-ghost use Rattle.book.specs.declared.load.RefusedBy.TheVariants.{File as TheFile, Book as TheBook};
-ghost use Rattle.book.specs.Load.{report_number, report_refusal, refused_by, reported, ended, call_for, load_from, Took, Done, header_in, load_refusal, load_of};
+ghost use Rattle.book.specs.Load.{refusal_of, report_number, report_refusal, reported, ended, call_for, load_from, Took, Done, header_in, load_refusal, load_of};
 ghost use Rattle.book.specs.Shown.{numbers_of, open_book, pass_of};
 
 use crate::states::{Numbers, OpenBook, Pass};
@@ -13,18 +12,11 @@ use tariff::{CostRow, Refusal, Sizes, UnitRow};
 use unit_file::reader::Reader;
 use unit_file::record::Record;
 
-// Who refused a load: the file by its form, or the book.
+// The refusal that stopped a load: the file's, by its form, or the book's.
 #[derive(Clone, Copy, PartialEq, Eq, Debug)]
-pub enum RefusedBy {
-    File,
-    Book,
-}
-
-// The refusal that stopped a load, and who gave it.
-#[derive(Clone, Copy, PartialEq, Eq, Debug)]
-pub struct RefusedLoad {
-    pub refusal: Refusal,
-    pub by: RefusedBy,
+pub enum RefusedLoad {
+    File(Refusal),
+    Book(Refusal),
 }
 
 // What a load came to: the rows of both kinds that it posted, the byte place that it reached, and
@@ -37,21 +29,12 @@ pub struct LoadReport {
 }
 
 impl RefusedLoad {
-    fn by_file(refusal: Refusal) -> RefusedLoad
-        ensures { result ≡ refused_by TheFile refusal }
+    // The refusal, whoever gave it.
+    pub fn refusal(self) -> Refusal
+        ensures { result ≡ refusal_of self }
     {
-        RefusedLoad {
-            refusal,
-            by: RefusedBy::File,
-        }
-    }
-
-    fn by_book(refusal: Refusal) -> RefusedLoad
-        ensures { result ≡ refused_by TheBook refusal }
-    {
-        RefusedLoad {
-            refusal,
-            by: RefusedBy::Book,
+        match self {
+            RefusedLoad::File(refusal) | RefusedLoad::Book(refusal) => refusal,
         }
     }
 }
@@ -61,10 +44,11 @@ impl LoadReport {
     pub fn refusal(&self) -> Option<Refusal>
         ensures { result ≡ report_refusal self.now }
     {
-        self.refused.map(|refused| refused.refusal)
+        self.refused.map(RefusedLoad::refusal)
     }
 
-    // The number of the refusal, or 0 where nobody refused.
+    // The number of the refusal, or 0 where nobody refused: no Option, since the rules give such a
+    // load the number 0.
     pub fn number(&self) -> u8
         ensures { result ≡ report_number (report_refusal self.now) }
     {
@@ -73,7 +57,7 @@ impl LoadReport {
 }
 
 // The sizes in the first record of a file, which has to be the header.
-fn header_of(first: Option<Record>) -> Result<Sizes, Refusal>
+pub fn header_of(first: Option<Record>) -> Result<Sizes, Refusal>
     ensures { result ≡ header_in (option_map item_of first.entry) }
 {
     let Some(Record::Header(sizes)) = first else {
@@ -135,15 +119,13 @@ impl OpenBook {
         requires inside { reader.place ≤ length reader.bytes.now }
         ensures { Done (opened (open_book self.old) units.old costs.old marks.now) (load_from (length reader.entry.bytes.now) reader.entry.bytes.now (pass_of pass.now) (opened (open_book self.old) units.old costs.old marks.now) reader.entry.place 0) (opened (open_book self.new) units.new costs.new marks.now) (ended report.new.rows report.new.place result) }
     {
-        loop {
-            report.place = reader.place();
-            let found = reader.next_in_order().map_err(RefusedLoad::by_file)?;
-            let Some(record) = found else {
-                return Ok(());
-            };
+        report.place = reader.place();
+        while let Some(record) = reader.next_in_order().map_err(RefusedLoad::File)? {
             let taken = self.load_record(units, costs, marks, pass, record);
-            report.rows += taken.map_err(RefusedLoad::by_book)?;
+            report.rows += taken.map_err(RefusedLoad::Book)?;
+            report.place = reader.place();
         }
+        Ok(())
     }
 
     // Loads a file behind a report in which nothing has been done.
@@ -160,13 +142,13 @@ impl OpenBook {
         ensures { Done (opened (open_book self.old) units.old costs.old marks.now) (load_of (opened (open_book self.old) units.old costs.old marks.now) (pass_of pass.now) bytes.now) (opened (open_book self.new) units.new costs.new marks.now) (ended report.new.rows report.new.place result) }
     {
         let checked = self.numbers.check_load(units, costs, marks, pass);
-        checked.map_err(RefusedLoad::by_book)?;
-        let mut reader = Reader::new(bytes).map_err(RefusedLoad::by_file)?;
+        checked.map_err(RefusedLoad::Book)?;
+        let mut reader = Reader::new(bytes).map_err(RefusedLoad::File)?;
         report.place = reader.place();
-        let first = reader.next().map_err(RefusedLoad::by_file)?;
-        let sizes = header_of(first).map_err(RefusedLoad::by_file)?;
+        let first = reader.next().map_err(RefusedLoad::File)?;
+        let sizes = header_of(first).map_err(RefusedLoad::File)?;
         if sizes != self.numbers.sizes.sizes() {
-            return Err(RefusedLoad::by_book(Refusal::FieldOutOfRange));
+            return Err(RefusedLoad::Book(Refusal::FieldOutOfRange));
         }
         self.load_rows(units, costs, marks, pass, reader, report)
     }

@@ -46,6 +46,7 @@ impl OpenBook {
                 let OpenBook { numbers } = self;
                 Ok(FrozenBook { numbers })
             }
+            // no map_err: its closure would take the book that the other arm freezes
             Err(refusal) => Err((self, refusal)),
         }
     }

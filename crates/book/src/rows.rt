@@ -123,9 +123,11 @@ impl Numbers {
     }
 }
 
-// Tables are parameters: a struct of lent `&mut` slices shows them at exit only as nested pairs.
+// Tables are parameters: a struct of lent `&mut` slices shows them at exit only as nested pairs. So
+// are marks and pass, each lent alone, since hand in takes both another way.
 impl OpenBook {
-    // Appends a unit row, and answers its number, from 0.
+    // Appends a unit row, and answers its number, from 0. Only the count that grows differs from
+    // adding a cost, and a setter for it in Entry would be longer.
     pub fn post(
         &mut self,
         units: &mut [UnitRow],

@@ -4,13 +4,14 @@
 
 #[cfg(test)]
 mod tests {
-    use book::load::RefusedBy;
+    use book::load::RefusedLoad;
     use book::{OpenBook, Pass};
     use sharing::Running;
     use std::test::Fail;
     use tariff::limits::LAST_PASS_NUMBER;
     use tariff::{CostRow, Refusal, Sizes, UnitRow};
 
+    // written out, so that a changed limit is seen
     const LIMIT: u32 = 2_147_483_647;
 
     const SIZES: Sizes = Sizes {
@@ -46,12 +47,9 @@ mod tests {
 
     fn of(hour: u8, quantity: u32) -> UnitRow {
         UnitRow {
-            customer: 0,
-            day: 1,
             hour,
-            subzone: 1,
-            usage: 0,
             quantity,
+            ..ROW
         }
     }
 
@@ -154,6 +152,7 @@ mod tests {
         let mut book = OpenBook::open(SIZES, 7, &mut marks)?;
         let mut other = OpenBook::open(SIZES, 8, &mut others)?;
         let pass = book.admit(&mut marks, 5)?;
+        // no `?`: the other pass has to be handed in before an error goes on
         let stranger = match other.admit(&mut others, 5) {
             Ok(stranger) => stranger,
             Err(refusal) => {
@@ -322,14 +321,9 @@ mod tests {
         marks: &[u32],
         pass: &Pass,
         bytes: &[u8],
-    ) -> (usize, u8, usize, Option<RefusedBy>) {
+    ) -> (usize, u8, usize, Option<RefusedLoad>) {
         let report = book.load(units, costs, marks, pass, bytes);
-        (
-            report.rows,
-            report.number(),
-            report.place,
-            report.refused.map(|refused| refused.by),
-        )
+        (report.rows, report.number(), report.place, report.refused)
     }
 
     #[test]
@@ -376,13 +370,18 @@ mod tests {
         );
         let quantity = units[0].quantity;
         let handed = book.hand_in(&mut marks, pass);
-        assert_eq!(rt; half, (1, 8, 25, Some(RefusedBy::Book)));
-        assert_eq!(rt; cut, (1, 17, 21, Some(RefusedBy::File)));
+        let unfit_row = RefusedLoad::Book(Refusal::FieldOutOfRange);
+        let unfit_table = RefusedLoad::Book(Refusal::TableUnfit);
+        let no_file = RefusedLoad::File(Refusal::NoUnitFile);
+        let cut_short = RefusedLoad::File(Refusal::RecordLength { place: 21 });
+        let no_header = RefusedLoad::File(Refusal::RecordKind { place: 1 });
+        assert_eq!(rt; half, (1, 8, 25, Some(unfit_row)));
+        assert_eq!(rt; cut, (1, 17, 21, Some(cut_short)));
         assert_eq!(rt; whole, (1, 0, 25, None));
-        assert_eq!(rt; empty, (0, 16, 0, Some(RefusedBy::File)));
-        assert_eq!(rt; version, (0, 18, 1, Some(RefusedBy::File)));
-        assert_eq!(rt; other_sizes, (0, 8, 1, Some(RefusedBy::Book)));
-        assert_eq!(rt; short, (0, 2, 0, Some(RefusedBy::Book)));
+        assert_eq!(rt; empty, (0, 16, 0, Some(no_file)));
+        assert_eq!(rt; version, (0, 18, 1, Some(no_header)));
+        assert_eq!(rt; other_sizes, (0, 8, 1, Some(unfit_row)));
+        assert_eq!(rt; short, (0, 2, 0, Some(unfit_table)));
         assert_eq!(rt; quantity, 600);
         assert_eq!(rt; handed, Ok(()));
         Ok(())

@@ -38,7 +38,7 @@ const COST: CostRow = CostRow {
 #[derive(Clone, Copy)]
 pub struct Note {
     call: &'static str,
-    answer: Said,
+    answer: Result<Said, Refusal>,
 }
 
 // What each call answered so far.
@@ -52,8 +52,8 @@ pub struct Log {
 const MOST_NOTES: usize = 32;
 
 impl Log {
-    fn note(&mut self, call: &'static str, answer: impl Into<Said>) {
-        let answer = answer.into();
+    fn note<A: Into<Said>>(&mut self, call: &'static str, answer: Result<A, Refusal>) {
+        let answer = answer.map(A::into);
         if self.notes.len() < self.notes.capacity() {
             self.notes.push(Note { call, answer }).unwrap();
         }
@@ -79,7 +79,7 @@ fn admit(
     call: &'static str,
 ) -> Result<Pass, Refusal> {
     let pass = book.admit(marks, contributor)?;
-    log.note(call, Said::Pass(pass.number()));
+    log.note(call, Ok(Said::Pass(pass.number())));
     Ok(pass)
 }
 
@@ -157,7 +157,8 @@ fn bill_by<R: SharingRule>(
         &mut stations,
         &mut credits,
     );
-    log.note(call, Said::bill(answer, charges, stations, credits));
+    let said = answer.map(|left| Said::bill(left, charges, stations, credits));
+    log.note(call, said);
 }
 
 fn bill(book: &FrozenBook, units: &[UnitRow], costs: &[CostRow], log: &mut Log) {
@@ -176,11 +177,11 @@ fn bill(book: &FrozenBook, units: &[UnitRow], costs: &[CostRow], log: &mut Log) 
 fn freeze(book: OpenBook, marks: &[u32], log: &mut Log) -> Result<FrozenBook, OpenBook> {
     match book.freeze(marks) {
         Ok(frozen) => {
-            log.note("freeze", Said::Done);
+            log.note("freeze", Ok(()));
             Ok(frozen)
         }
         Err((open, refusal)) => {
-            log.note("freeze", Said::Refused(refusal));
+            log.note("freeze", Err::<(), Refusal>(refusal));
             Err(open)
         }
     }
@@ -226,7 +227,7 @@ fn settle(
             bill(&frozen, units, costs, log);
             log.note("take in the cached pass", frozen.take_in(marks, contractor));
             let open = frozen.reopen();
-            log.note("reopen", Said::Done);
+            log.note("reopen", Ok(()));
             admit_again(open, units, costs, marks, log)
         }
         Err(open) => {
@@ -241,8 +242,9 @@ fn play(log: &mut Log) -> Result<(), Refusal> {
     let mut costs = [NO_COST; 4];
     let mut marks = [0; 64];
     let mut book = OpenBook::open(SIZES, 7, &mut marks)?;
-    log.note("open", Said::Done);
+    log.note("open", Ok(()));
     let analyst = admit(&mut book, &mut marks, ANALYST, log, "admit the analyst")?;
+    // no `?`: the analyst's pass has to be handed in before an error goes on
     let contractor = match admit(
         &mut book,
         &mut marks,
@@ -279,11 +281,18 @@ fn main(rt: HostRuntime) -> anyhow::Result<()> {
     let mut log = Log {
         notes: Vec::with_capacity(rt.alloc(), MOST_NOTES)?,
     };
-    if let Err(refusal) = play(&mut log) {
-        log.note("stopped", Said::Refused(refusal));
+    let played = play(&mut log);
+    if played.is_err() {
+        log.note("stopped", played);
     }
     for Note { call, answer } in &log.notes {
-        println!(rt; "{call}: {answer}")?;
+        match answer {
+            Ok(said) => println!(rt; "{call}: {said}")?,
+            Err(refusal) => {
+                let number = refusal.number();
+                println!(rt; "{call}: refused {number}")?;
+            }
+        }
     }
     Ok(())
 }

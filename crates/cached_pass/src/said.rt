@@ -4,7 +4,6 @@ ghost use Rattle.cached_pass.specs.Said.{said_row, said_done, said_bill};
 
 use bill_rules::Remainders;
 use std::fmt;
-use tariff::Refusal;
 
 // All that an accepted bill of three customers gives.
 #[derive(Clone, Copy)]
@@ -15,57 +14,42 @@ pub struct Billed {
     pub left: Remainders,
 }
 
-// The number of a pass or of a row, done, the figures of a bill, or a refusal.
+// What an accepted call answered: done, the number of a pass or of a row, or the figures of a bill.
 #[derive(Clone, Copy)]
 pub enum Said {
     Done,
     Pass(u32),
     Row(usize),
     Bill(Billed),
-    Refused(Refusal),
 }
 
-impl From<Result<usize, Refusal>> for Said {
-    ghost from_gives = { λ answer said. said ≡ said_row answer };
+impl From<()> for Said {
+    ghost from_gives = { λ done said. said ≡ said_done done };
 
-    fn from(answer: Result<usize, Refusal>) -> Said {
-        match answer {
-            Ok(row) => Said::Row(row),
-            Err(refusal) => Said::Refused(refusal),
-        }
+    fn from(_done: ()) -> Self {
+        Self::Done
     }
 }
 
-impl From<Result<(), Refusal>> for Said {
-    ghost from_gives = { λ answer said. said ≡ said_done answer };
+impl From<usize> for Said {
+    ghost from_gives = { λ row said. said ≡ said_row row };
 
-    fn from(answer: Result<(), Refusal>) -> Said {
-        match answer {
-            Ok(()) => Said::Done,
-            Err(refusal) => Said::Refused(refusal),
-        }
+    fn from(row: usize) -> Self {
+        Self::Row(row)
     }
 }
 
 impl Said {
     // A bill is no `From`, since its figures stand in the columns beside the answer.
-    pub fn bill(
-        answer: Result<Remainders, Refusal>,
-        charges: [u64; 3],
-        stations: [u64; 3],
-        credits: [u64; 3],
-    ) -> Said
-        ensures { result ≡ said_bill answer charges stations credits }
+    pub fn bill(left: Remainders, charges: [u64; 3], stations: [u64; 3], credits: [u64; 3]) -> Said
+        ensures { result ≡ said_bill left charges stations credits }
     {
-        match answer {
-            Ok(left) => Said::Bill(Billed {
-                charges,
-                stations,
-                credits,
-                left,
-            }),
-            Err(refusal) => Said::Refused(refusal),
-        }
+        Said::Bill(Billed {
+            charges,
+            stations,
+            credits,
+            left,
+        })
     }
 }
 
@@ -93,10 +77,6 @@ impl fmt::Display for Said {
             Said::Pass(number) => write!(f, "pass {number}"),
             Said::Row(number) => write!(f, "row {number}"),
             Said::Bill(billed) => write!(f, "{billed}"),
-            Said::Refused(refusal) => {
-                let number = refusal.number();
-                write!(f, "refused {number}")
-            }
         }
     }
 }

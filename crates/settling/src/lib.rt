@@ -7,9 +7,10 @@ ghost use Rattle.book_rules.specs.Run.{opened};
 ghost use Rattle.book.specs.Shown.{open_book};
 ghost use Rattle.settling.specs.Settling.{file_sizes, left, loaded_in, leaves, settlement};
 
+use book::load::header_of;
 use book::{FrozenBook, OpenBook};
 use tariff::{CostRow, Refusal, Sizes, UnitRow};
-use unit_file::{Reader, Record};
+use unit_file::Reader;
 
 // What stands in a free row of a unit table.
 pub const NO_UNITS: UnitRow = UnitRow {
@@ -35,11 +36,7 @@ pub fn file_sizes(bytes: &[u8]) -> Result<Sizes, Refusal>
     ensures { result ≡ file_sizes bytes.now }
 {
     let mut reader = Reader::new(bytes)?;
-    let first = reader.next()?;
-    let Some(Record::Header(sizes)) = first else {
-        return Err(Refusal::RecordKind { place: 1 });
-    };
-    Ok(sizes)
+    header_of(reader.next()?)
 }
 
 // Loads a file through a pass of contributor 0, which is handed in behind it.
@@ -55,10 +52,7 @@ fn load_through_a_pass(
     let pass = book.admit(marks, 0)?;
     let report = book.load(units, costs, marks, &pass, bytes);
     let ended = book.hand_in(marks, pass);
-    match report.refusal() {
-        Some(refusal) => Err(refusal),
-        None => ended,
-    }
+    report.refusal().map_or(ended, Err)
 }
 
 // Settles a file in a book with these sizes and tables, and gives the frozen book. A refused file

@@ -1,11 +1,12 @@
 use Rattle.std.proofs.Common.{false, Err, refl, sym, ap, ◌∙◌}
 use Rattle.std.specs.Option.{option_map}
 use Rattle.std.proofs.lemmas.Result.{MatchResult-at_ok, MatchResult-at_err}
+use Rattle.tariff.specs.declared.refusal.Refusal.TheVariants.{FieldOutOfRange}
 use Rattle.tariff.proofs.Refused.{err_tells}
 use Rattle.unit_file.specs.Records.{item_of}
 use Rattle.unit_file.specs.Reading.{said}
 use Rattle.book_rules.specs.Run.{opened}
-use Rattle.book.specs.declared.load.RefusedBy.TheVariants.{File, Book}
+use Rattle.book.specs.declared.load.RefusedLoad.TheVariants.{File, Book}
 use Rattle.book.specs.Load.{load_refusal}
 use Rattle.book.specs.Shown.{open_book, pass_of}
 use Rattle.book.proofs.Loads.{went, stopped_by, let_in, done_stopped, refused_is, no_file_is, no_record_is, no_header_is, first_is, load_is, unalike}
@@ -57,6 +58,6 @@ returns-then-ne c =
     let new = MatchResult-at_ok _ _ c.in_ok-reader.reader (went File c.new.result c.in_ok-reader.reader c.in_ok-reader.ensures.cases) c.new.ensures in
     let found = ap said (sym (went File c.next.result c.in_ok-first.first c.in_ok-first.ensures.cases)) ∙ c.next.ensures.answers in
     let headed = sym (went File c.header_of.result c.in_ok-sizes.sizes c.in_ok-sizes.ensures.cases) ∙ c.header_of.ensures in
-    done_stopped s _ c.args.report.now.rows 0 _ 1 (Err c.by_book.result) c.by_book.result _ Book (ap (λ r. r.rows) c.requires) (c.place-report.ensures ∙ new.2) refl c.by_book.ensures
+    done_stopped s _ c.args.report.now.rows 0 _ 1 (Err (Book FieldOutOfRange)) (Book FieldOutOfRange) FieldOutOfRange Book (ap (λ r. r.rows) c.requires) (c.place-report.ensures ∙ new.2) refl refl
     (load_is s p _ c.in_ok-reader.reader.bytes.now c.in_ok-reader.reader.place c.next.new.self.place c.in_ok-first.first c.in_ok-sizes.sizes c.sizes.result false none new.0 new.1 new.2
     found c.next.ensures.place headed c.sizes.ensures (unalike _ c.if-ne.ensures))
