@@ -30,7 +30,7 @@ fn main(rt: HostRuntime) -> anyhow::Result<ExitCode> {
         }
         Err(error @ ShareError::OutOfMemory) => Err(error.into()),
         Err(error) => {
-            eprintln!(rt; "share: {error}")?;
+            rt.eprintln(error)?;
             Ok(ExitCode::FAILURE)
         }
     }

@@ -26,9 +26,9 @@ Divides (Err NothingToShare) means = ⊥
 Divides (Err (Refused e)) means = Err e ≡ means
 Divides (Err OutOfMemory) means = ⊤
 
--- the line for an error: the program's name, the words and a line end
+-- the line for an error: its words and a line end
 abbrev pub error_line : ShareError → List ℕ
-error_line e = codes "share: " ++ (error_words e ++ codes "\n")
+error_line e = error_words e ++ codes "\n"
 
 abbrev pub Answers : {Z : Type 0} → Result (String Z) ShareError → Bool × List ℕ → Type 0
 Answers (Ok table) means = (true, string_bytes table) ≡ means

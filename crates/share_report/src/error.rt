@@ -70,11 +70,11 @@ impl fmt::Display for ShareError<'_> {
 
     fn fmt<W: fmt::Write>(&self, f: &mut fmt::Formatter<W>) -> fmt::Result {
         match *self {
-            ShareError::Misread(misread) => write!(f, "{misread}"),
+            ShareError::Misread(misread) => write!(f, "share: {misread}"),
             ShareError::NothingToShare => f.write_str(
-                "word 1 is missing: the pool in cents, and after it the units of each customer",
+                "share: word 1 is missing: the pool in cents, and after it the units of each customer",
             ),
-            ShareError::Refused(refusal) => write!(f, "{refusal}"),
+            ShareError::Refused(refusal) => write!(f, "share: {refusal}"),
             ShareError::OutOfMemory => f.write_str("memory allocation failed"),
         }
     }

@@ -189,7 +189,7 @@ mod tests {
         ];
         for (input, line) in cases {
             let error = report_on(heap, input).expect_err(&rt, "a line that says why");
-            let told = format!(in heap; "share: {error}\n")?;
+            let told = format!(in heap; "{error}\n")?;
             assert_eq!(rt; told.as_str(), line);
         }
         Ok(())
