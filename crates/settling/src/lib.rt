@@ -52,7 +52,11 @@ fn load_through_a_pass(
     let pass = book.admit(marks, 0)?;
     let report = book.load(units, costs, marks, &pass, bytes);
     let ended = book.hand_in(marks, pass);
-    report.refusal().map_or(ended, Err)
+    // (no `map_or`: with it the check of a wrong load searches for minutes)
+    match report.refusal() {
+        Some(refusal) => Err(refusal),
+        None => ended,
+    }
 }
 
 // Settles a file in a book with these sizes and tables, and gives the frozen book. A refused file
