@@ -1,9 +1,10 @@
 -- The first word of a line, and the words of the calls and of the rules. Assumes nothing.
-use Rattle.std.proofs.Common.{◌≡◌, ℕ, Bool, true, false, cond, eqb, ◌≢◌, List, [], ◌∷◌, ◌++◌, Some, None, Option, codes, All, IsUtf8, rules, sym, refl, ◌∙◌, subst, ⊎_elim}
+use Rattle.std.proofs.Common.{◌≡◌, ℕ, Bool, true, false, cond, eqb, ◌≢◌, List, [], ◌∷◌, ◌++◌, Some, None, Ok, Err, Option, Result, MatchResult, Bor, codes, All, IsUtf8, rules, sym, refl, ap, ◌∙◌, subst, ⊎_elim}
 use Rattle.std.proofs.lemmas.Bool.{cases_eq, ne_eqb, eq-eqb}
 use Rattle.std.proofs.lemmas.Str.{IsUtf8-from_ascii}
 use Rattle.std.proofs.lemmas.List.Elements.{recursion_from_All}
 use Rattle.std.specs.List.{AllByRecursion}
+use Rattle.std.specs.Result.{result_ok}
 use Rattle.journal_line.specs.declared.calls.CallName.{CallName}
 use Rattle.journal_line.specs.declared.calls.CallName.TheVariants.{Open, Admit, Remove, HandIn, TakeIn, Post, Correct, Cost, Freeze, Reopen, Bill}
 use Rattle.journal_line.specs.Lines.{word_ends, after_first, call_in, rule_in}
@@ -73,3 +74,12 @@ no_text Running = IsUtf8-from_ascii (codes "running") (search rules)
 
 pub no_rule : (word : List ℕ) → (IsUtf8 word → ⊥) → None ≡ rule_in (32 ∷ word)
 no_rule word h = rule_of word None (λ name e. h (subst IsUtf8 (sym e) (no_text name)))
+
+-- the bytes of a text, or that they are none, by the option that is left of the result
+pub text_is : {E : Type 0} (r : Result (Bor (List ℕ)) E) (word : List ℕ) (Q : E → Type 0) (text : Bor (List ℕ)) → Some text ≡ result_ok r → MatchResult r (λ s. (s.now ≡ word) × IsUtf8 word) Q → text.now ≡ word
+text_is (Ok s) word Q text is h = let same : text ≡ s = cc in ap (λ (b : Bor (List ℕ)). b.now) same ∙ h.0
+text_is (Err e) word Q text is h = cc
+
+pub text_is_none : {E : Type 0} (r : Result (Bor (List ℕ)) E) (word : List ℕ) (P : Bor (List ℕ) → Type 0) (Q : E → Type 0) → None ≡ result_ok r → MatchResult r P (λ e. ¬ (IsUtf8 word) × Q e) → ¬ (IsUtf8 word)
+text_is_none (Ok s) word P Q is h = cc
+text_is_none (Err e) word P Q is h = h.0

@@ -52,7 +52,7 @@ pub enum Command {
     },
 }
 
-// What a line says.
+// What a line says: one of three things, of which one is nothing to do.
 #[derive(Clone, Copy, PartialEq, Eq, Debug)]
 pub enum Line {
     // it is empty or a remark
@@ -87,7 +87,8 @@ pub enum Fault {
 }
 
 impl CallName {
-    // The call that a word names, if it names one.
+    // The call that a word names, if it names one. No FromStr, whose error would say nothing that None
+    // does not.
     pub(crate) fn named(word: &[u8]) -> Option<CallName>
         ensures { Calls word.now result }
     {

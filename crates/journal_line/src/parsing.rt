@@ -126,10 +126,7 @@ fn rule_in(text: &[u8]) -> Option<RuleName>
     ensures { result ≡ rule_in text.now }
 {
     let word = text.strip_prefix(b" ")?;
-    let Ok(word) = str::from_utf8(word) else {
-        return None;
-    };
-    RuleName::named(word)
+    RuleName::named(str::from_utf8(word).ok()?)
 }
 
 fn bill_in(text: &[u8]) -> Option<Command>
