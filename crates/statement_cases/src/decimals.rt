@@ -1,5 +1,5 @@
 // The decimal digits of numbers, and buffers with and without room for them.
-use crate::files::{BLANK, check_text, is_blank};
+use crate::files::{BLANK, check_room, check_text, is_blank};
 use buffer::{put_number, put_signed};
 use std::process::Abort;
 use std::test::Fail;
@@ -73,65 +73,66 @@ const SIGNED: [(i64, &[u8]); 14] = [
 // Where the digits are written.
 const PLACE: usize = 3;
 
-// The two kinds of numbers that a buffer takes.
-#[derive(Clone, Copy)]
-enum Number {
-    Unsigned(u64),
-    Signed(i64),
-}
-
-fn put(out: &mut [u8], place: usize, number: Number) -> Result<usize, Refusal> {
-    match number {
-        Number::Unsigned(number) => put_number(out, place, number),
-        Number::Signed(number) => put_signed(out, place, number),
-    }
-}
-
 // Checks a number that is written in a buffer of `room` bytes, and that all other bytes stay.
-fn check_written(rt: &impl Abort, number: Number, digits: &[u8], room: usize) -> Result<(), Fail> {
-    let mut bytes = [BLANK; 32];
+fn check_written<F: Fn(&mut [u8], usize) -> Result<usize, Refusal>>(
+    rt: &impl Abort,
+    put: &F,
+    digits: &[u8],
+    room: usize,
+) -> Result<(), Fail>
+    requires { F.IsAlwaysCallable put.now }
+{
     assert!(rt; digits.len() <= 20);
-    let Some((out, beyond)) = bytes.split_at_mut_checked(room) else {
-        return Err(Fail::new("no such room"));
-    };
-    let answer = put(out, PLACE, number);
-    assert_eq!(rt; answer, Ok(PLACE + digits.len()));
-    assert!(rt; PLACE <= out.len());
-    assert!(rt; is_blank(&out[0..PLACE]));
-    check_text(rt, &out[PLACE..out.len()], digits);
-    assert!(rt; is_blank(beyond));
-    Ok(())
+    check_room(rt, &mut [BLANK; 32], room, |out| {
+        let answer = put(out, PLACE);
+        assert_eq!(rt; answer, Ok(PLACE + digits.len()));
+        assert!(rt; PLACE <= out.len());
+        assert!(rt; is_blank(&out[0..PLACE]));
+        check_text(rt, &out[PLACE..out.len()], digits);
+        Ok(())
+    })
 }
 
 // Checks that a number is refused at a place of a buffer of `room` bytes, and that all bytes stay.
-fn check_refused(rt: &impl Abort, number: Number, place: usize, room: usize) -> Result<(), Fail> {
-    let mut bytes = [BLANK; 32];
-    let Some((out, beyond)) = bytes.split_at_mut_checked(room) else {
-        return Err(Fail::new("no such room"));
-    };
-    let answer = put(out, place, number);
-    assert_eq!(rt; answer, Err(Refusal::BufferTooShort));
-    assert!(rt; is_blank(out));
-    assert!(rt; is_blank(beyond));
-    Ok(())
+fn check_refused<F: Fn(&mut [u8], usize) -> Result<usize, Refusal>>(
+    rt: &impl Abort,
+    put: &F,
+    place: usize,
+    room: usize,
+) -> Result<(), Fail>
+    requires { F.IsAlwaysCallable put.now }
+{
+    check_room(rt, &mut [BLANK; 32], room, |out| {
+        let answer = put(out, place);
+        assert_eq!(rt; answer, Err(Refusal::BufferTooShort));
+        assert!(rt; is_blank(out));
+        Ok(())
+    })
 }
 
-fn check_number(rt: &impl Abort, number: Number, digits: &[u8]) -> Result<(), Fail> {
+// Checks the digits that `put` writes into a buffer from a place on.
+fn check_number<F: Fn(&mut [u8], usize) -> Result<usize, Refusal>>(
+    rt: &impl Abort,
+    put: F,
+    digits: &[u8],
+) -> Result<(), Fail>
+    requires { F.IsAlwaysCallable put }
+{
     assert!(rt; digits.len() >= 1 && digits.len() <= 20);
     let end = PLACE + digits.len();
-    check_written(rt, number, digits, 32)?;
-    check_written(rt, number, digits, end)?;
-    check_refused(rt, number, PLACE, end - 1)?;
-    check_refused(rt, number, 0, 0)?;
-    check_refused(rt, number, 32, 32)?;
-    check_refused(rt, number, 33, 32)?;
-    check_refused(rt, number, usize::MAX, 32)
+    check_written(rt, &put, digits, 32)?;
+    check_written(rt, &put, digits, end)?;
+    check_refused(rt, &put, PLACE, end - 1)?;
+    check_refused(rt, &put, 0, 0)?;
+    check_refused(rt, &put, 32, 32)?;
+    check_refused(rt, &put, 33, 32)?;
+    check_refused(rt, &put, usize::MAX, 32)
 }
 
 #[test]
 fn numbers(rt: HostRuntime) -> Result<(), Fail> {
     for case in &NUMBERS {
-        check_number(&rt, Number::Unsigned(case.0), case.1)?;
+        check_number(&rt, |out, place| put_number(out, place, case.0), case.1)?;
     }
     Ok(())
 }
@@ -139,7 +140,7 @@ fn numbers(rt: HostRuntime) -> Result<(), Fail> {
 #[test]
 fn signed_numbers(rt: HostRuntime) -> Result<(), Fail> {
     for case in &SIGNED {
-        check_number(&rt, Number::Signed(case.0), case.1)?;
+        check_number(&rt, |out, place| put_signed(out, place, case.0), case.1)?;
     }
     Ok(())
 }

@@ -1,17 +1,19 @@
 // Unit files made for the cases, and the check of the statement of a file.
 use statement_report::{Statement, make_statement};
+use std::fmt::InlineText;
 use std::process::Abort;
 use std::test::Fail;
 use tariff::{CostRow, Refusal, Sizes, UnitRow};
 use unit_file::{Record, Writer};
 
-// Customer, day, hour, subzone, use, quantity.
+// Customer, day, hour, subzone, use, quantity: in the cases a row is shorter as a tuple.
 pub(crate) type Units = (u16, u8, u8, u8, u8, u32);
 
 // Line, subzone, day, hour, amount.
 pub(crate) type Cost = (u8, u8, u8, u8, u32);
 
-// What a file's statement is to be: its rows, or the number of the refusal that it tells.
+// What a file's statement is to be: its rows, or the number of the refusal that it tells, as
+// docs/REFUSALS.md publishes it.
 pub(crate) type Expected = Result<&'static [u8], u8>;
 
 // A file by its sizes (customers, days, subzones) and rows, and its statement.
@@ -94,19 +96,14 @@ pub(crate) fn is_blank(bytes: &[u8]) -> bool {
     bytes.iter().all(|byte| *byte == BLANK)
 }
 
-// The text of a statement.
-fn text_of(expected: Expected) -> &'static [u8] {
+// The text of a statement: its rows, or the row for a refusal, which is made in `row`.
+fn text_of<'a>(expected: Expected, row: &'a mut InlineText<16>) -> &'a [u8] {
     match expected {
         Ok(rows) => rows,
-        Err(1) => b"refused 1\n",
-        Err(8) => b"refused 8\n",
-        Err(10) => b"refused 10\n",
-        Err(11) => b"refused 11\n",
-        Err(14) => b"refused 14\n",
-        Err(16) => b"refused 16\n",
-        Err(17) => b"refused 17\n",
-        Err(18) => b"refused 18\n",
-        Err(_) => b"",
+        Err(number) => {
+            *row = InlineText::of(format_args!("refused {number}\n"));
+            row.as_str().as_bytes()
+        }
     }
 }
 
@@ -117,39 +114,52 @@ pub(crate) fn check_text(rt: &impl Abort, out: &[u8], text: &[u8]) {
     assert!(rt; is_blank(&out[text.len()..out.len()]));
 }
 
-// Checks the answer and the text of a statement made in a buffer of `room` bytes, and that all other
-// bytes stay.
-fn check_in(rt: &impl Abort, file: &[u8], room: usize, expected: Expected) -> Result<(), Fail> {
-    let mut bytes = [BLANK; 4096];
-    let Some((out, beyond)) = bytes.split_at_mut_checked(room) else {
-        return Err(Fail::new("the text is too long for a case"));
-    };
-    let Statement { length, refusal } = make_statement(file, out)?;
-    let text = text_of(expected);
-    assert_eq!(rt; length, text.len());
-    assert_eq!(rt; refusal.map(Refusal::number), expected.err());
-    check_text(rt, out, text);
+// Gives the first bytes of a blank buffer to a check, which fills them, and checks that all others
+// stay.
+pub(crate) fn check_room<F: FnOnce(&mut [u8]) -> Result<(), Fail>>(
+    rt: &impl Abort,
+    bytes: &mut [u8],
+    room: usize,
+    fill: F,
+) -> Result<(), Fail>
+    requires { F.IsAlwaysCallable fill }
+{
+    let (out, beyond) = bytes
+        .split_at_mut_checked(room)
+        .ok_or_else(|| Fail::new("the text is too long for a case"))?;
+    fill(out)?;
     assert!(rt; is_blank(beyond));
     Ok(())
 }
 
+// Checks the answer and the text of a statement made in a buffer of `room` bytes, and that all other
+// bytes stay.
+fn check_in(rt: &impl Abort, file: &[u8], room: usize, expected: Expected) -> Result<(), Fail> {
+    check_room(rt, &mut [BLANK; 4096], room, |out| {
+        let Statement { length, refusal } = make_statement(file, out)?;
+        let mut row = InlineText::new();
+        let text = text_of(expected, &mut row);
+        assert_eq!(rt; length, text.len());
+        assert_eq!(rt; refusal.map(Refusal::number), expected.err());
+        check_text(rt, out, text);
+        Ok(())
+    })
+}
+
 // Checks that a buffer of `room` bytes is refused and stays as it was.
 fn check_too_short(rt: &impl Abort, file: &[u8], room: usize) -> Result<(), Fail> {
-    let mut bytes = [BLANK; 4096];
-    let Some((out, beyond)) = bytes.split_at_mut_checked(room) else {
-        return Err(Fail::new("the text is too long for a case"));
-    };
-    let answer = make_statement(file, out);
-    assert_eq!(rt; answer, Err(Refusal::BufferTooShort));
-    assert!(rt; is_blank(out));
-    assert!(rt; is_blank(beyond));
-    Ok(())
+    check_room(rt, &mut [BLANK; 4096], room, |out| {
+        let answer = make_statement(file, out);
+        assert_eq!(rt; answer, Err(Refusal::BufferTooShort));
+        assert!(rt; is_blank(out));
+        Ok(())
+    })
 }
 
 // Checks the statement of a file in a buffer with room behind the text, in one with the length of
 // the text, in one that is a byte shorter, and in an empty one.
 pub(crate) fn check_file(rt: &impl Abort, file: &[u8], expected: Expected) -> Result<(), Fail> {
-    let length = text_of(expected).len();
+    let length = text_of(expected, &mut InlineText::new()).len();
     check_in(rt, file, 4096, expected)?;
     check_in(rt, file, length, expected)?;
     if length == 0 {
