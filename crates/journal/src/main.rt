@@ -68,10 +68,12 @@ fn answer_lines<B: BufRead>(
     input: &mut B,
     mut session: Session,
 ) -> (Session, Result<(), Stop>) {
+    // a range, since a loop that reads input needs a count to end
     for number in 1..u64::MAX {
         let line = match next_line(rt.alloc(), input) {
             Ok(Some(line)) => line,
             Ok(None) => break,
+            // no `?`: the session goes back beside the error
             Err(fault) => return (session, Err(fault.into())),
         };
         let mut text = Vec::new(rt.alloc());

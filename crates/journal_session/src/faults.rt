@@ -19,6 +19,7 @@ pub enum LineFault {
     OpenedAgain,
 }
 
+// No generic error enum for several crates: its `From<E>` and `From<AllocError>` would overlap.
 #[derive(Clone, Copy, PartialEq, Eq, Debug)]
 pub enum AnswerError {
     // the line ends the journal

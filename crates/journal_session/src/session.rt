@@ -1,4 +1,6 @@
-// One line of a journal is answered.
+// One line of a journal is answered. Where a line is not answered, there is no `?`: the session is
+// moved, and goes back beside the error. Why `down` and `running` are two parameters: see
+// `Journal::make`.
 ghost use Rattle.std.specs.Prelude.{◌≡◌};
 ghost use Rattle.sharing.specs.Rule.{Lawful};
 ghost use Rattle.journal_book.specs.Shown.{rules_for};

@@ -30,18 +30,18 @@ pub fn answer_to(heap: Global, file: &[u8]) -> Result<Printed, AllocError>
     })
 }
 
-// Prints the statement, and tells whether the file is accepted.
-fn run(rt: &HostRuntime) -> anyhow::Result<bool> {
+// Prints the statement, and answers the refusal that it tells, if any.
+fn run(rt: &HostRuntime) -> anyhow::Result<Option<Refusal>> {
     let mut input = Vec::new(rt.alloc());
     rt.stdin().read_to_end(&mut input)?;
     let printed = answer_to(rt.alloc(), input.as_slice())?;
     rt.stdout().write_all(printed.text.as_slice())?;
-    Ok(printed.refusal.is_none())
+    Ok(printed.refusal)
 }
 
 fn main(rt: HostRuntime) -> anyhow::Result<ExitCode> {
-    if run(&rt)? {
-        return Ok(ExitCode::SUCCESS);
+    match run(&rt)? {
+        None => Ok(ExitCode::SUCCESS),
+        Some(_) => Ok(ExitCode::FAILURE),
     }
-    Ok(ExitCode::FAILURE)
 }

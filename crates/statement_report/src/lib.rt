@@ -33,14 +33,15 @@ pub const MOST_BYTES: usize = 65_536;
 // The last line that a statement has a bill of.
 const LAST_LINE: u8 = 7;
 
-// How many bytes the text takes, and the refusal that it tells, where the file is refused.
+// How many bytes the text takes, and the refusal that it tells, where the file is refused. No heap:
+// the text stands in the caller's buffer, so its length is a number beside it.
 #[derive(Clone, Copy, PartialEq, Eq, Debug)]
 pub struct Statement {
     pub length: usize,
     pub refusal: Option<Refusal>,
 }
 
-// A file's frozen book with the tables of its rows.
+// A file's frozen book with the tables of its rows, which are lent: a statement allocates nothing.
 #[derive(Clone, Copy)]
 struct Settled<'a> {
     book: &'a FrozenBook,
@@ -81,6 +82,7 @@ impl Settled<'_> {
         ensures makes { (marks : List ℕ) → Makes (lines_of (closed (frozen_book self.now.book.now) self.now.units.now self.now.costs.now marks)) text.old 0 result text.new }
         ensures near { IfOk result (λ end. end ≤ most_bytes) }
     {
+        // a loop that keeps a place: the rows of a line begin behind those of the line before
         let mut place = 0;
         for line in 1..=LAST_LINE {
             place = self.put_line(text, place, line)?;
@@ -109,7 +111,8 @@ fn put_statement(text: &mut [u8], file: &[u8]) -> Result<usize, Refusal>
     settled.put_lines(text)
 }
 
-// The row for a refusal, at the start of a row that has room for it.
+// The row for a refusal, at the start of a row that has room for it. An array with a length, since
+// nothing is allocated; the text of a line's bill has its own room in `line_rows`.
 fn write_refused(row: &mut [u8; 16], refusal: Refusal) -> usize
     ensures text { take result row.new ≡ refused_text refusal }
     ensures near { result ≤ 16 }
