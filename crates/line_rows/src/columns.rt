@@ -6,14 +6,14 @@ ghost use Rattle.billing.specs.Work.{Upto};
 use sharing::column_total;
 
 // The three figures of a row: a customer's, or the totals.
-#[derive(Clone, Copy)]
+#[derive(Clone, Copy, PartialEq, Eq, Default)]
 pub(crate) struct RowFigures {
     pub charge: u64,
     pub station: u64,
     pub credit: u64,
 }
 
-// The columns are the caller's slices: a bill allocates nothing.
+// Three columns, one figure a customer in each, as `FrozenBook::bill` fills them.
 #[derive(Clone, Copy)]
 pub(crate) struct Columns<'a> {
     pub charges: &'a [u64],
@@ -31,7 +31,7 @@ impl RowFigures {
     pub fn is_figureless(self) -> bool
         ensures { result ≡ figureless self.charge self.station self.credit }
     {
-        self.charge == 0 && self.station == 0 && self.credit == 0
+        self == RowFigures::default()
     }
 }
 

@@ -18,6 +18,7 @@ use buffer::put_bytes;
 use columns::Columns;
 use rows::line_text;
 use sharing::SharingRule;
+use tariff::limits::MOST_CUSTOMERS;
 use tariff::{CostRow, Refusal, UnitRow};
 
 // Bytes that the rows of one line never pass.
@@ -25,7 +26,9 @@ pub const MOST_LINE_BYTES: usize = 27_648;
 
 // Bills a line of a frozen book by a rule, and writes the rows of the bill from a place of the buffer
 // on. Answers the place behind them. A bill that is refused, or rows that do not fit, leave the
-// buffer as it was. No heap: the rows of the tables and the buffer are the caller's slices.
+// buffer as it was. No heap: the rows of the tables and the buffer are the caller's slices, lent to
+// each call, so `out` and `place`, and the book and its rows, are parameters. `line` is a number,
+// since an unknown line has to reach the book, which refuses it.
 pub fn put_bill<R: SharingRule>(
     out: &mut [u8],
     place: usize,
@@ -44,9 +47,9 @@ pub fn put_bill<R: SharingRule>(
     let customers = book.customers();
     // No heap: the columns are arrays, and so is the text, which reaches the caller's buffer only
     // when it fits.
-    let mut charges = [0u64; 256];
-    let mut stations = [0u64; 256];
-    let mut credits = [0u64; 256];
+    let mut charges = [0u64; MOST_CUSTOMERS as usize];
+    let mut stations = [0u64; MOST_CUSTOMERS as usize];
+    let mut credits = [0u64; MOST_CUSTOMERS as usize];
     let charges = &mut charges[..customers];
     let stations = &mut stations[..customers];
     let credits = &mut credits[..customers];

@@ -37,7 +37,7 @@ impl Decimal for i64 {
 }
 
 // Room for the rows of one line, and how much of it is written: an array with a length, since the
-// calls that keep a bill allocate nothing.
+// calls that keep a bill allocate nothing. Its room is no const parameter: it is made for one use.
 #[derive(Drop)]
 pub(crate) struct RowText {
     bytes: [u8; MOST_LINE_BYTES],
