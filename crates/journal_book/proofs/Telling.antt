@@ -1,5 +1,5 @@
 -- The text of a reply, from what a call leaves in the buffer. Assumes nothing.
-use Rattle.std.proofs.Common.{◌≡◌, ℕ, ◌+◌, cond, List, [], ◌∷◌, ◌++◌, length, take, drop, is_ok, Some, None, Ok, Err, Option, Result, refl, ap, ◌∙◌, subst, inl, inr}
+use Rattle.std.proofs.Common.{◌≡◌, ℕ, ◌+◌, cond, List, [], ◌∷◌, ◌++◌, length, take, drop, is_ok, Some, None, Ok, Err, Option, Result, MatchResult, refl, sym, ap, ◌∙◌, subst, inl, inr}
 use Rattle.std.specs.declared.alloc.AllocError.{AllocError}
 use Rattle.tariff.specs.declared.refusal.Refusal.{Refusal}
 use Rattle.tariff.specs.Refusals.{unless}
@@ -49,20 +49,18 @@ words out command (answered (refused e)) = refl
 words out command (answered not_offered) = refl
 words out command (no_pass n) = refl
 
-module _ (rules : RuleName → Rule) (command : Command) (old new : Journal) (out out' : List ℕ) (made : Result Reply AllocError) (leaves : Leaves rules (length out) command old new made) (writes : Written rules command old out out' made) where
-  module _ (reply : Reply) (is : made ≡ Ok reply) where
-    answers : Answers rules (length out) command old new reply
-    answers = subst (λ (r : Result Reply AllocError). Leaves rules (length out) command old new r) is leaves
+module _ (rules : RuleName → Rule) (command : Command) (old new : Journal) (out out' : List ℕ) where
+  text_of : (reply : Reply) → Answers rules (length out) command old new reply → out' ≡ out_after out (bill_text command (step_journal rules old command).reply) → reply_words out' reply ≡ reply_text (length out) command (step_journal rules old command).reply
+  text_of reply answers written =
+      ap (λ (l : List ℕ). reply_words l reply) written ∙ ap (λ (r : Reply). reply_words (out_after out (bill_text command (step_journal rules old command).reply)) r) answers.replies ∙ words out command (step_journal rules old command).reply
 
-    written : out' ≡ out_after out (bill_text command (step_journal rules old command).reply)
-    written = subst (λ (r : Result Reply AllocError). Written rules command old out out' r) is writes
+  told : (reply : Reply) → Answers rules (length out) command old new reply → out' ≡ out_after out (bill_text command (step_journal rules old command).reply) → (before text : List ℕ) (r : Result (Unit {0}) AllocError) →
+      text ≡ cond (is_ok r) (before ++ reply_words out' reply) before → Tells rules (length out) command old new before text r
+  told reply answers written before text (Ok _) h = (answers.leaves, h ∙ ap (λ (l : List ℕ). before ++ l) (text_of reply answers written))
+  told reply answers written before text (Err e) h = (inr answers.leaves, h)
 
-    text_of : reply_words out' reply ≡ reply_text (length out) command (step_journal rules old command).reply
-    text_of = ap (λ (l : List ℕ). reply_words l reply) written ∙ ap (λ (r : Reply). reply_words (out_after out (bill_text command (step_journal rules old command).reply)) r) answers.replies ∙ words out command (step_journal rules old command).reply
-
-    pub tells : (before text : List ℕ) (r : Result (Unit {0}) AllocError) → text ≡ cond (is_ok r) (before ++ reply_words out' reply) before → Tells rules (length out) command old new before text r
-    tells before text (Ok _) h = (answers.leaves, h ∙ ap (λ (l : List ℕ). before ++ l) text_of)
-    tells before text (Err e) h = (inr answers.leaves, h)
-
-  pub no_memory : (e : AllocError) (before : List ℕ) → made ≡ Err e → Tells rules (length out) command old new before before (Err e)
-  no_memory e before is = (inl (subst (λ (r : Result Reply AllocError). Leaves rules (length out) command old new r) is leaves), refl)
+  pub tells : (made : Result Reply AllocError) → Leaves rules (length out) command old new made → Written rules command old out out' made → (before text : List ℕ) (r : Result (Unit {0}) AllocError) →
+      MatchResult made (λ reply. text ≡ cond (is_ok r) (before ++ reply_words out' reply) before) (λ e. (r ≡ Err e) × (text ≡ before)) → Tells rules (length out) command old new before text r
+  tells (Ok reply) leaves writes before text r h = told reply leaves writes before text r h
+  tells (Err e) leaves writes before text r h =
+      subst (λ (x : Result (Unit {0}) AllocError). Tells rules (length out) command old new before text x) (sym h.0) (inl leaves, h.1)

@@ -1,4 +1,5 @@
-// Why a journal is not opened.
+// Why a journal is not opened. No generic error enum for several crates: its `From<E>` and
+// `From<AllocError>` would overlap.
 ghost use Rattle.std.specs.Prelude.{◌≡◌};
 ghost use Rattle.journal_book.specs.declared.errors.OpenError.TheVariants.{Refused, OutOfMemory};
 

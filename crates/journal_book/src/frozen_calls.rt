@@ -1,4 +1,5 @@
-// The calls of a journal while its book is frozen.
+// The calls of a journal while its book is frozen. Why `down` and `running` are two parameters: see
+// `Journal::make`.
 ghost use Rattle.std.specs.Prelude.{◌≡◌, ℕ, length};
 ghost use Rattle.sharing.specs.Rule.{Lawful, Rule};
 ghost use Rattle.book.specs.Shown.{frozen_book};
@@ -69,6 +70,7 @@ impl Tables {
         ensures lawful { Lawful (D.meaning down.old) × Lawful (R.meaning running.old) }
         ensures means { (D.meaning down.new ≡ D.meaning down.old) × (R.meaning running.new ≡ R.meaning running.old) }
     {
+        // the journal bills by any two rules; the name picks one of the caller's
         match rule {
             RuleName::Down => self.bill(book, down, line, out),
             RuleName::Running => self.bill(book, running, line, out),

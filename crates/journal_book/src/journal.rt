@@ -48,7 +48,9 @@ impl Journal {
     }
 
     // Makes one call. The rows of a bill are written from the start of `out` on.
-    // (d) `down` and `running` are no struct: each clause would name the same two laws, of its fields.
+    // Two parameters and no struct of both: a clause names both meanings and their laws at each. A
+    // struct of two lent rules would show its ends as nested pairs, one that owns them would ask
+    // callers to give their rules away.
     pub fn make<D: SharingRule, R: SharingRule>(
         self,
         down: &mut D,
@@ -61,6 +63,7 @@ impl Journal {
         ensures lawful { Lawful (D.meaning down.old) × Lawful (R.meaning running.old) }
         ensures means { (D.meaning down.new ≡ D.meaning down.old) × (R.meaning running.new ≡ R.meaning running.old) }
     {
+        // no `?` here or above: the journal is moved, and goes back beside the error
         let Journal { stage, mut tables } = self;
         match stage {
             Stage::Open(book) => {

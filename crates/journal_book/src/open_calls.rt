@@ -20,6 +20,7 @@ impl Tables {
         ensures { (rules : RuleName → Rule) (room : ℕ) → Leaves rules room (Admit contributor) (open_journal book.old self.old) (open_journal book.new self.new) result }
     {
         self.passes.reserve(1)?;
+        // a match, since its first arm also keeps the pass
         match book.admit(&mut self.marks, contributor) {
             Ok(pass) => {
                 let number = pass.number();
@@ -80,6 +81,7 @@ impl Tables {
     fn freeze(&self, book: OpenBook) -> (Stage, Reply)
         ensures { (rules : RuleName → Rule) (room : ℕ) → Answers rules room Freeze (open_journal book self.now) (shown_as result.0 self.now) result.1 }
     {
+        // a match, since either arm has a book of its own state
         match book.freeze(&self.marks) {
             Ok(frozen) => (Stage::Frozen(frozen), Reply::Frozen),
             Err((open, refusal)) => (Stage::Open(open), Reply::Refused(refusal)),

@@ -1,4 +1,5 @@
-// The passes of a journal: each at its number less one, until it is handed in or taken in.
+// The passes of a journal: each at its number less one, until it is handed in or taken in. They are no
+// map: passes are numbered from 1 without gaps, and a Pass is no `Drop`.
 ghost use Rattle.std.specs.Prelude.{◌≡◌, ◌+◌, ◌-◌, None, MatchOption, slice_set};
 ghost use Rattle.std.specs.Option.{option_map};
 ghost use Rattle.book.specs.Shown.{pass_of};
@@ -11,6 +12,7 @@ use book::Pass;
 fn place_of(number: u32) -> Option<usize>
     ensures { MatchOption result (number ≡ 0) (λ place. place + 1 ≡ number) }
 {
+    // a cast, since usize has no From<u32>
     (number as usize).checked_sub(1)
 }
 

@@ -1,4 +1,5 @@
-// A journal replays a list of calls.
+// A journal replays a list of calls. Why `down` and `running` are two parameters: see
+// `Journal::make`.
 ghost use Rattle.std.specs.Prelude.{◌≡◌, List, ◌++◌, length};
 ghost use Rattle.sharing.specs.Rule.{Lawful};
 ghost use Rattle.book_rules.specs.Laws.{LawsOfALife};
@@ -30,11 +31,9 @@ impl Journal {
         ensures means { (D.meaning down.new ≡ D.meaning down.old) × (R.meaning running.new ≡ R.meaning running.old) }
     {
         let (next, made) = self.make(down, running, command, out);
-        // (c) by `and_then`: the proof did not close, since no name there has the closure's text
-        match made {
-            Ok(reply) => (next, push_reply(text, reply, out)),
-            Err(fault) => (next, Err(fault)),
-        }
+        // no `?` here: the journal is moved, and goes back beside the error
+        let told = push_reply(text, made, out);
+        (next, told)
     }
 
     // Makes a list of calls, and appends one text for each answer.
@@ -50,12 +49,14 @@ impl Journal {
         ensures lawful { Lawful (D.meaning down.old) × Lawful (R.meaning running.old) }
         ensures means { (D.meaning down.new ≡ D.meaning down.old) × (R.meaning running.new ≡ R.meaning running.old) }
     {
+        // room for the rows of any bill: `put_bill` writes into a buffer of the caller's
         let mut out = [0u8; MOST_LINE_BYTES];
         let mut journal = self;
         for command in commands {
             let (next, told) = journal.tell(down, running, *command, &mut out, text);
             journal = next;
             if told.is_err() {
+                // no `?`: the journal goes back beside the error
                 return (journal, told);
             }
         }

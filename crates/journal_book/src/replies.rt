@@ -1,4 +1,5 @@
-// What a journal answers to a call.
+// What a journal answers to a call. It is no Result: a refused call is an answer, printed like any
+// other, and the journal goes on.
 use tariff::Refusal;
 
 #[derive(Clone, Copy, PartialEq, Eq, Debug)]
@@ -12,7 +13,7 @@ pub enum Reply {
     Corrected,
     Frozen,
     Open,
-    // how many bytes the rows of the bill take
+    // how many bytes the rows of the bill take; they stand in the caller's buffer
     Billed(usize),
     Refused(Refusal),
     NotOffered,

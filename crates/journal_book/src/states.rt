@@ -13,7 +13,8 @@ pub(crate) enum Stage {
 }
 
 // The tables of a book, and the passes that it gave to the journal: each at its number less one,
-// until it is handed in or taken in. They hold passes, so they are no `Drop`.
+// until it is handed in or taken in. They hold passes, so they are no `Drop`. A journal owns its
+// tables; a statement has lent slices of rows, since it allocates nothing.
 pub(crate) struct Tables {
     pub(crate) units: Vec<UnitRow>,
     pub(crate) costs: Vec<CostRow>,

@@ -1,5 +1,5 @@
 // What a journal answers, as text.
-ghost use Rattle.std.specs.Prelude.{◌≡◌, ◌++◌, [], is_ok, if◌then◌else◌, Some};
+ghost use Rattle.std.specs.Prelude.{◌≡◌, ◌++◌, [], is_ok, if◌then◌else◌, Some, Err, MatchResult};
 ghost use Rattle.journal_book.specs.Texts.{refusal_text, reply_words};
 
 use crate::replies::Reply;
@@ -50,10 +50,15 @@ impl fmt::Display for Reply {
     }
 }
 
-// Appends the text of a reply; the rows of a bill stand at the start of `out`.
-pub(crate) fn push_reply(text: &mut Vec<u8>, reply: Reply, out: &[u8]) -> Result<(), AllocError>
-    ensures { text.new.items ≡ (if is_ok result then text.old.items ++ reply_words out.now reply else text.old.items) }
+// Appends the text of a reply, if one was made; the rows of a bill stand at the start of `out`.
+pub(crate) fn push_reply(
+    text: &mut Vec<u8>,
+    made: Result<Reply, AllocError>,
+    out: &[u8],
+) -> Result<(), AllocError>
+    ensures { MatchResult made (λ reply. text.new.items ≡ (if is_ok result then text.old.items ++ reply_words out.now reply else text.old.items)) (λ e. (result ≡ Err e) × (text.new.items ≡ text.old.items)) }
 {
+    let reply = made?;
     if let Reply::Billed(end) = reply {
         return text.extend_from_slice(out.get(..end).unwrap_or(out));
     }
