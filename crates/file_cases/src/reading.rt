@@ -1,6 +1,6 @@
 // Files that are read, and the refusal and place of each that is not.
 use std::test::Fail;
-use tariff::Refusal;
+use tariff::{CostRow, Refusal};
 use unit_file::{Reader, Record, check_file};
 
 #[test]
@@ -82,22 +82,10 @@ fn kinds_and_note_bytes(rt: HostRuntime) {
 #[test]
 fn longest_note(rt: HostRuntime) {
     let mut file = [65; 211];
-    file[0] = 1;
-    file[1] = 0;
-    file[2] = 5;
-    file[3] = 0;
-    file[8] = 0;
-    file[9] = 201;
-    file[10] = 3;
+    file[..11].copy_from_slice(&[1, 0, 5, 0, 65, 65, 65, 65, 0, 201, 3]);
     assert_eq!(rt; check_file(&file), Ok(2));
     let mut longer = [65; 212];
-    longer[0] = 1;
-    longer[1] = 0;
-    longer[2] = 5;
-    longer[3] = 0;
-    longer[8] = 0;
-    longer[9] = 202;
-    longer[10] = 3;
+    longer[..11].copy_from_slice(&[1, 0, 5, 0, 65, 65, 65, 65, 0, 202, 3]);
     assert_eq!(rt;
         check_file(&longer),
         Err(Refusal::RecordLength { place: 8 })
@@ -109,18 +97,16 @@ fn places(rt: HostRuntime) -> Result<(), Fail> {
     let file = [1, 0, 9, 2, 3, 1, 1, 1, 0, 0, 3, 232, 0, 3, 3, 72, 105];
     let mut reader = Reader::new(&file)?;
     assert_eq!(rt; reader.place(), 1);
-    match reader.next()? {
-        Some(Record::Cost(row)) => {
-            assert_eq!(rt; row.line, 3);
-            assert_eq!(rt; row.amount, 1000);
-        }
-        _ => return Err(Fail::new("a cost row stands first")),
-    }
+    let row = CostRow {
+        line: 3,
+        subzone: 1,
+        day: 1,
+        hour: 1,
+        amount: 1000,
+    };
+    assert_eq!(rt; reader.next()?, Some(Record::Cost(row)));
     assert_eq!(rt; reader.place(), 12);
-    match reader.next()? {
-        Some(Record::Note(note)) => assert!(rt; note == b"Hi".as_slice()),
-        _ => return Err(Fail::new("a note stands behind it")),
-    }
+    assert_eq!(rt; reader.next()?, Some(Record::Note(b"Hi")));
     assert_eq!(rt; reader.place(), 17);
     assert!(rt; reader.next()?.is_none());
     assert_eq!(rt; reader.place(), 17);

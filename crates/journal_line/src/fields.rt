@@ -1,10 +1,9 @@
 // Numbers behind single spaces, at the front of a text.
 ghost use Rattle.std.specs.Prelude.{◌≡◌, ℕ, ◌≤◌};
 ghost use Rattle.journal_line.specs.Lines.{next_in, last_in};
-ghost use Rattle.scanning.specs.Scanning.{at_end};
 ghost use Rattle.std.specs.Option.{option_map};
 
-use scanning::{Number, field, field_of};
+use scanning::{Number, at_end, field, field_of};
 
 // The number of the next field, not above a limit, and what follows it.
 pub(crate) fn next_within<'a, N: Number>(text: &'a [u8], most: u64) -> Option<(N, &'a [u8])>
@@ -20,13 +19,6 @@ pub(crate) fn next<'a, N: Number>(text: &'a [u8]) -> Option<(N, &'a [u8])>
     ensures { option_map (λ p. (N.worth p.0, p.1.now)) result ≡ next_in N.MOST text.now }
 {
     field_of(text, b" ")
-}
-
-// A value, if the text is at its end.
-pub(crate) fn at_end<T: Drop>(text: &[u8], value: T) -> Option<T>
-    ensures { result ≡ at_end text.now value }
-{
-    text.is_empty().then_some(value)
 }
 
 // The number of the last field, not above a limit.

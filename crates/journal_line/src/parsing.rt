@@ -4,7 +4,8 @@ ghost use Rattle.journal_line.specs.Lines.{word_ends, call_in, opening_in, unit_
 ghost use Rattle.std.specs.Option.{option_map};
 
 use crate::calls::{CallName, Command, Fault, Line, Opening};
-use crate::fields::{at_end, last, last_within, next, next_within};
+use crate::fields::{last, last_within, next, next_within};
+use scanning::at_end;
 use sharing::RuleName;
 use std::str;
 use tariff::{CostRow, Sizes, UnitRow};

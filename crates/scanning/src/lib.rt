@@ -2,7 +2,7 @@
 #![tactic(auto)]
 
 ghost use Rattle.std.specs.Prelude.{◌≡◌, ◌≤◌, true, IfSome};
-ghost use Rattle.scanning.specs.Scanning.{after_word, is_digit, value_in, number_in, field_in};
+ghost use Rattle.scanning.specs.Scanning.{after_word, is_digit, value_in, number_in, field_in, at_end};
 ghost use Rattle.std.specs.List.{list_all, prefix_len};
 ghost use Rattle.std.specs.Option.{option_map};
 
@@ -41,6 +41,13 @@ fn value_of(digits: &[u8], most: u64) -> Option<u64>
         }
     }
     Some(value)
+}
+
+// A value, if the text is at its end.
+pub fn at_end<T: Drop>(text: &[u8], value: T) -> Option<T>
+    ensures { result ≡ at_end text.now value }
+{
+    text.is_empty().then_some(value)
 }
 
 // The number at the front of the text, of digits, and what follows it.

@@ -16,6 +16,7 @@ pub trait Number: Copy {
         ensures { option_map Self.worth result ≡ cond (nat_le value MOST) (Some value) None };
 }
 
+// Four like impls: no macro may write an impl here, and the types' `MAX` is in no trait.
 impl Number for u8 {
     ghost MOST = { 255 };
 

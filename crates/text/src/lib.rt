@@ -66,6 +66,7 @@ impl<'a> Iterator for Words<'a> {
 pub fn number_of(word: &[u8]) -> Result<u32, WordFault>
     ensures { result ≡ number_of word.now }
 {
+    // tried: `.map_err(|_| WordFault::NotANumber)?`, whose proof did not close
     let Ok(digits) = str::from_utf8(word) else {
         return Err(WordFault::NotANumber);
     };

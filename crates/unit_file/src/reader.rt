@@ -1,9 +1,7 @@
 // Reads a unit file, record by record, and a whole file.
-ghost use Rattle.std.specs.Prelude.{◌≡◌, ◌+◌, ◌-◌, ◌*◌, ◌<◌, ◌≤◌, true, false, [], ◌∷◌, length, Some, None, MatchResult, MatchOption};
+ghost use Rattle.std.specs.Prelude.{◌≡◌, ◌+◌, true, false, length, Some, None, MatchResult, MatchOption};
 ghost use Rattle.std.specs.Option.{option_map};
-ghost use Rattle.tariff.specs.Refusals.{answer, first_of};
-ghost use Rattle.tariff.specs.declared.refusal.Refusal.TheVariants.{RecordKind};
-ghost use Rattle.unit_file.specs.Reading.{two_in, four_in, length_in, sizes_in, unit_in, cost_in, item_by, fits_kind, bad_length, bad_kind, Framed, record_at, next_place, ordered_at, place_in_order, open_refusal, misplaced, records_of, counted, one_said, said};
+ghost use Rattle.unit_file.specs.Reading.{sizes_in, unit_in, cost_in, item_by, fits_kind, bad_length, bad_kind, Framed, record_at, next_place, ordered_at, place_in_order, open_refusal, misplaced, records_of, counted, said};
 ghost use Rattle.unit_file.specs.Laws.{Rewritten};
 ghost use Rattle.unit_file.specs.Records.{item_of, unprintable};
 
@@ -62,11 +60,11 @@ fn cost_in(fields: &[u8]) -> CostRow
 pub(crate) fn has_unprintable(note: &[u8]) -> bool
     ensures { result ≡ unprintable note.now }
 {
-    note.iter().any(|b| *b < 32 || *b > 126)
+    note.iter().any(|b| !(b' '..=b'~').contains(b))
 }
 
 // Whether a record of a kind byte may have so many bytes behind its length. An unknown kind has
-// no length of its own.
+// no length of its own, and is refused only after a wrong length: so the kind stays its byte here.
 fn fits_kind(kind: u8, len: usize) -> bool
     ensures { result ≡ fits_kind kind len }
 {
@@ -74,7 +72,7 @@ fn fits_kind(kind: u8, len: usize) -> bool
         Ok(Kind::Header) => len == 5,
         Ok(Kind::Unit) => len == 11,
         Ok(Kind::Cost) => len == 9,
-        Ok(Kind::Note) => len >= 2 && len <= 1 + MOST_NOTE_BYTES,
+        Ok(Kind::Note) => (2..=1 + MOST_NOTE_BYTES).contains(&len),
         Err(UnknownKind) => true,
     }
 }
@@ -175,6 +173,7 @@ pub fn check_file(bytes: &[u8]) -> Result<usize, Refusal>
 {
     let mut reader = Reader::new(bytes)?;
     let mut count = 0;
+    // no Iterator: a refused record leaves the reader where it is, and would be answered without end
     while let Some(_) = reader.next_in_order()? {
         count += 1;
     }

@@ -4,7 +4,7 @@ ghost use Rattle.unit_file.specs.Kinds.{Decodes};
 use tariff::{CostRow, Sizes, UnitRow};
 
 // Rows and sizes are held by value; a note is a stretch of the bytes that it was read from.
-#[derive(Clone, Copy)]
+#[derive(Clone, Copy, PartialEq, Eq, Debug)]
 pub enum Record<'a> {
     Header(Sizes),
     Unit(UnitRow),

@@ -1,5 +1,5 @@
 // Writes a unit file into a caller's buffer, record by record.
-ghost use Rattle.std.specs.Prelude.{◌≡◌, ◌+◌, ◌-◌, ◌<◌, ◌≤◌, true, false, List, [], ◌∷◌, ◌++◌, length, take, IfOk, Some, None, Ok, Err, OnOk, nat_lt};
+ghost use Rattle.std.specs.Prelude.{◌≡◌, ◌+◌, ◌≤◌, List, [], ◌∷◌, ◌++◌, length, take, IfOk, Ok, OnOk};
 ghost use Rattle.tariff.specs.Limits.{most_file_bytes};
 ghost use Rattle.tariff.specs.Refusals.{answer, unless};
 ghost use Rattle.buffer.specs.Putting.{pasted, put_refusal as buffer_refusal};
@@ -77,7 +77,8 @@ fn cost_bytes(row: CostRow) -> [u8; 11]
     ]
 }
 
-// The text goes first: where it fits, the three bytes before it do too.
+// The text goes first: where it fits, the three bytes before it do too. `out` and `place` are no
+// struct: the buffer is lent to each call.
 fn put_note(out: &mut [u8], place: usize, text: &[u8]) -> Result<usize, Refusal>
     requires { place + length (bytes_of (note text.now)) ≤ most_file_bytes }
     ensures answers { result ≡ answer (buffer_refusal (length out.old) place (bytes_of (note text.now))) (place + length (bytes_of (note text.now))) }

@@ -1,20 +1,12 @@
 // Reads one line of the text form.
-ghost use Rattle.std.specs.Prelude.{◌≡◌, ◌+◌, ◌-◌, ◌*◌, ◌<◌, ◌≤◌, IfSome, Some, None};
+ghost use Rattle.std.specs.Prelude.{◌≡◌};
 ghost use Rattle.std.specs.Option.{option_map};
-ghost use Rattle.unit_file.specs.Records.{item_of, cost};
-ghost use Rattle.scanning.specs.Scanning.{at_end};
+ghost use Rattle.unit_file.specs.Records.{item_of};
 ghost use Rattle.unit_line.specs.Parsing.{header_in, unit_in, cost_in, item_in};
 
-use scanning::{after_word, field_of};
+use scanning::{after_word, at_end, field_of};
 use tariff::{CostRow, Sizes, UnitRow};
 use unit_file::Record;
-
-// A record, if nothing stands behind it.
-fn at_end<'a>(text: &[u8], record: Record<'a>) -> Option<Record<'a>>
-    ensures { option_map item_of result ≡ at_end text.now (item_of «record».entry) }
-{
-    text.is_empty().then_some(record)
-}
 
 fn header_in<'a>(text: &'a [u8]) -> Option<Record<'a>>
     ensures { option_map item_of result ≡ header_in text.now }

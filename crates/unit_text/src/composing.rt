@@ -1,5 +1,5 @@
 // A unit file from its text form.
-ghost use Rattle.std.specs.Prelude.{◌≡◌, ℕ, ◌+◌, ◌-◌, ◌<◌, ◌≤◌, List, ◌∷◌, length, take, drop, IfOk, Some, Ok, Err, MatchResult, ◌≢◌, slice_index, position, ◌==◌};
+ghost use Rattle.std.specs.Prelude.{◌≡◌, ℕ, ◌+◌, ◌<◌, ◌≤◌, List, ◌∷◌, length, take, Some, Ok, Err, MatchResult, position, ◌==◌};
 ghost use Rattle.tariff.specs.Limits.{most_file_bytes};
 ghost use Rattle.unit_file.specs.Laws.{ReadBack};
 ghost use Rattle.unit_text.specs.Composing.{lines_in, compose_from, composed, Files, Restored, reason_words, fault_words};
@@ -29,7 +29,8 @@ pub struct Fault {
     pub reason: Reason,
 }
 
-// Why no file is made of a text.
+// Why no file is made of a text. It is not generic in its fault: `From<E>` and `From<AllocError>`
+// would overlap.
 #[derive(Debug, Drop)]
 pub enum ComposeError {
     Fault(Fault),
@@ -40,7 +41,7 @@ impl From<Fault> for ComposeError {
     ghost from_gives = { λ fault e. e ≡ AtFault fault };
 
     fn from(fault: Fault) -> ComposeError {
-        ComposeError::Fault(fault)
+        Self::Fault(fault)
     }
 }
 
@@ -48,7 +49,7 @@ impl From<AllocError> for ComposeError {
     ghost from_gives = { λ error e. e ≡ OutOfMemory error };
 
     fn from(error: AllocError) -> ComposeError {
-        ComposeError::OutOfMemory(error)
+        Self::OutOfMemory(error)
     }
 }
 
@@ -56,7 +57,7 @@ impl From<Refusal> for Reason {
     ghost from_gives = { λ refusal reason. reason ≡ Refused refusal };
 
     fn from(refusal: Refusal) -> Reason {
-        Reason::Refused(refusal)
+        Self::Refused(refusal)
     }
 }
 
@@ -154,14 +155,5 @@ impl fmt::Display for Fault {
         let line = self.line;
         let reason = self.reason;
         write!(f, "line {line}: {reason}")
-    }
-}
-
-impl fmt::Display for ComposeError {
-    fn fmt<W: fmt::Write>(&self, f: &mut fmt::Formatter<W>) -> fmt::Result {
-        match self {
-            ComposeError::Fault(fault) => write!(f, "{fault}"),
-            ComposeError::OutOfMemory(error) => write!(f, "{error}"),
-        }
     }
 }

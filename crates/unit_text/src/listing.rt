@@ -1,10 +1,10 @@
 // A unit file as text.
-ghost use Rattle.std.specs.Prelude.{◌≡◌, ◌++◌, IfOk, Some, None, string_bytes, OnOk};
+ghost use Rattle.std.specs.Prelude.{◌≡◌, ◌++◌, IfOk, Some, string_bytes, OnOk};
 ghost use Rattle.unit_file.specs.Laws.{Rewritten};
 ghost use Rattle.unit_file.specs.Reading.{contents_of};
 ghost use Rattle.unit_file.specs.Records.{item_of};
 ghost use Rattle.unit_text.specs.Composing.{Inverse};
-ghost use Rattle.unit_text.specs.Lines.{header_text, unit_text, cost_text, text_of, line_of, lines_of, fault_line, listing};
+ghost use Rattle.unit_text.specs.Lines.{header_text, unit_text, cost_text, text_of, line_of, fault_line, listing};
 ghost use Rattle.unit_text.specs.Listing.{Pushed};
 ghost use Rattle.unit_text.specs.declared.listing.Ending.TheVariants.{Refused, OutOfMemory};
 
@@ -19,6 +19,7 @@ pub struct Listing {
     pub refusal: Option<Refusal>,
 }
 
+// Rows have no Display of their lines: a note is bytes, so a record has none, and one form serves all.
 fn header_text(heap: Global, sizes: Sizes) -> Result<String, AllocError>
     ensures { IfOk result (λ t. string_bytes t ≡ header_text sizes) }
 {
@@ -96,7 +97,8 @@ fn push_fault(text: &mut Vec<u8>, heap: Global, refusal: Refusal) -> Result<(), 
     push_string(text, format!(in heap; "{refusal}\n")?)
 }
 
-// What ends a listing before the file does.
+// What ends a listing before the file does. It is not generic in its refusal: `From<E>` and
+// `From<AllocError>` would overlap.
 #[derive(Drop)]
 enum Ending {
     Refused(Refusal),
