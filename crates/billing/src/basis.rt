@@ -1,11 +1,11 @@
 // What a bill is worked out from: the line, and lawful rows of a book of some sizes.
 ghost use Rattle.std.specs.Prelude.{◌≡◌, ◌<◌, ◌≤◌};
 ghost use Rattle.tariff.specs.Limits.{most_amount};
-ghost use Rattle.lines.specs.Cells.{axis as axis_of, areas, days, hours};
+ghost use Rattle.lines.specs.Cells.{axis, areas, days, hours};
 ghost use Rattle.lines.specs.Totals.{cost_in, line_costs};
 ghost use Rattle.billing.specs.Work.{Sound, Spans};
 
-use lines::cell::WHOLE;
+use lines::cell::{WHOLE, axis};
 use lines::{Cell, Kinds, Line, total};
 use std::ops::Range;
 use tariff::limits::HOURS_OF_DAY;
@@ -40,28 +40,29 @@ impl Basis<'_, '_> {
     pub(crate) fn areas(self) -> Range<u8>
         ensures { Spans result (areas self.entry.line self.entry.sizes) }
     {
-        axis(self.line.area.zonal(), self.sizes.subzones)
+        values(self.line.area.zonal(), self.sizes.subzones)
     }
 
     // Its days.
     pub(crate) fn days(self) -> Range<u8>
         ensures { Spans result (days self.entry.line self.entry.sizes) }
     {
-        axis(self.line.span.dated(), self.sizes.days)
+        values(self.line.span.dated(), self.sizes.days)
     }
 
     // Its hours.
     pub(crate) fn hours(self) -> Range<u8>
         ensures { Spans result (hours self.entry.line) }
     {
-        axis(self.line.span.timed(), HOURS_OF_DAY)
+        values(self.line.span.timed(), HOURS_OF_DAY)
     }
 }
 
-// The values of a field: 1 to a most where the line needs the field, else 0 alone.
-fn axis(needed: bool, most: u8) -> Range<u8>
+// The values of a field, for a loop. (Of a `RangeInclusive` no lemma tells what a `for` has met, of a `Range` one does.)
+fn values(needed: bool, most: u8) -> Range<u8>
     requires { most < 255 }
-    ensures { Spans result (axis_of needed most) }
+    ensures { Spans result (axis needed most) }
 {
-    if needed { 1..most + 1 } else { 0..1 }
+    let (first, last) = axis(needed, most).into_inner();
+    first..last + 1
 }

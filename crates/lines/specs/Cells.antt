@@ -4,11 +4,14 @@
 --   at_time                which days belong to a day, and hours to an hour, of a cell
 --   holds                  whether a place lies in a cell
 --   axis                   the values of a field: 1 to a most where the line needs it, else 0 alone
+--   Inclusive              a range has these values
 --   areas, days, hours     those of a line in a book of some sizes
 --   hour_cells, day_cells  the cells of one area and day, and of one area
 --   cells                  all cells of a line
 --   station_days           each area and day of a line with a station part
-use Rattle.std.specs.Prelude.{ℕ, Bool, true, false, ◌&&◌, ◌||◌, List, [], ◌∷◌, map, Some, None, Option, ◌==◌}
+use Rattle.std.specs.Prelude.{◌≡◌, ℕ, Bool, true, false, cond, ◌&&◌, ◌||◌, List, [], ◌∷◌, map, Some, None, Option, ◌==◌}
+use Rattle.std.specs.declared.ops.RangeInclusive.{RangeInclusive}
+use Rattle.std.specs.Range.{range_inclusive_start, range_inclusive_end, range_inclusive_exhausted}
 use Rattle.std.specs.List.{range_with_len, flat_map}
 use Rattle.tariff.specs.declared.rows.Sizes.{Sizes}
 use Rattle.tariff.specs.Limits.{hours_of_day}
@@ -32,6 +35,12 @@ holds c p = in_area c.area p.subzone && (at_time c.day p.day && at_time c.hour p
 abbrev pub axis : Bool → ℕ → List ℕ
 axis true most = range_with_len 1 most
 axis false most = 0 ∷ []
+
+-- a range that has not begun holds the values of a field
+pub record Inclusive (r : RangeInclusive ℕ) (needed : Bool) (most : ℕ) : Type 0 where
+  pub first : range_inclusive_start r ≡ cond needed 1 0
+  pub last : range_inclusive_end r ≡ cond needed most 0
+  pub fresh : range_inclusive_exhausted r ≡ false
 
 abbrev pub areas : Line → Sizes → List ℕ
 areas l z = axis (zonal l.area) z.subzones

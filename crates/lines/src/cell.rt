@@ -1,6 +1,8 @@
 // Cells: one area at one time.
 ghost use Rattle.std.specs.Prelude.{◌≡◌};
-ghost use Rattle.lines.specs.Cells.{holds};
+ghost use Rattle.lines.specs.Cells.{holds, axis, Inclusive};
+
+use std::ops::RangeInclusive;
 
 // Where a row stands; a field that its line does not need is 0.
 #[derive(Clone, Copy, PartialEq, Eq, Debug)]
@@ -34,4 +36,11 @@ impl Cell {
             && (self.day == 0 || self.day == place.day)
             && (self.hour == 0 || self.hour == place.hour)
     }
+}
+
+// The values of a field: 1 to a most where a line needs the field, else 0 alone.
+pub fn axis(needed: bool, most: u8) -> RangeInclusive<u8>
+    ensures { Inclusive result needed most }
+{
+    if needed { 1..=most } else { 0..=0 }
 }

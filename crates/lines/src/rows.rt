@@ -4,6 +4,7 @@ ghost use Rattle.tariff.specs.Refusals.{answer, first_of};
 ghost use Rattle.lines.specs.Checked.{sizes_of};
 ghost use Rattle.lines.specs.Rows.{unlawful_unit, wrong, unlawful_cost, unit_faults, cost_faults};
 
+use crate::cell::axis;
 use crate::line::Line;
 use crate::sizes::BookSizes;
 use crate::totals::alike_costs;
@@ -13,15 +14,11 @@ use tariff::{CostRow, Refusal, Table, UnitRow};
 // The last use of a unit row; they are numbered from 0.
 const LAST_USE: u8 = 4;
 
-// Whether a field that is needed is 1 to `most`, or one that is not needed is 0.
+// Whether a field is among its values. (Only tested here: a loop over the values needs another range, see billing.)
 fn right_field(needed: bool, most: u8, field: u8) -> bool
     ensures { result ≡ not (wrong needed most field) }
 {
-    if needed {
-        (1..=most).contains(&field)
-    } else {
-        field == 0
-    }
+    axis(needed, most).contains(&field)
 }
 
 impl BookSizes {
