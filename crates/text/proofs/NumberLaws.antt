@@ -1,21 +1,13 @@
 -- The number that a word writes, by std's words for digits. Assumes nothing.
-use Rattle.std.proofs.Common.{◌≡◌, ℕ, ◌^◌, ◌<◌, Bool, true, false, cond, not, ◌||◌, eqb, ltb, List, length, Ok, Err, Result, MatchResult, refl, inl, inr, arith, rules}
-use Rattle.std.specs.Result.{OkIff}
+use Rattle.std.proofs.Common.{◌≡◌, ℕ, ◌+◌, ◌-◌, ◌*◌, ◌^◌, ◌≤◌, Bool, true, false, cond, not, ◌||◌, eqb, leb, ltb, List, [], ◌∷◌, length, Some, None, Ok, Err, Option, Result, refl, arith}
 use Rattle.std.specs.Char.{is_ascii_digit}
 use Rattle.std.specs.List.{list_all}
-use Rattle.std.specs.Str.{IsUtf8}
-use Rattle.std.specs.Str.Parse.{ParsesUnsigned}
-use Rattle.std.proofs.lemmas.Bool.{cases_lt}
+use Rattle.std.specs.Option.{ok_or}
+use Rattle.std.proofs.lemmas.Bool.{and_parts, leb-true}
 use Rattle.std.proofs.lemmas.Bool.Decides.{nat_tests}
-use Rattle.std.proofs.lemmas.Fmt.{IsAscii-from_digits}
-use Rattle.std.proofs.lemmas.Str.{IsUtf8-from_ascii}
-use Rattle.std.proofs.lemmas.Str.Parse.{IsNumeralModel, numerals_by_fold, parse_digits}
 use Rattle.text.specs.declared.WordFault.{WordFault}
 use Rattle.text.specs.declared.WordFault.TheVariants.{NotANumber, TooLarge}
 use Rattle.text.specs.Words.{value_from, number_of}
-
-own : IsNumeralModel (λ ds. list_all is_ascii_digit ds ≡ true) (value_from 0)
-own = numerals_by_fold _ (search rules) value_from (search rules)
 
 -- a word that is empty, or has a byte that is no digit, writes no number
 pub empty_word : (w : List ℕ) → length w ≡ 0 → Err NotANumber ≡ number_of w
@@ -28,18 +20,22 @@ no_digits w e = by (eqb (length w) 0)
     by true = refl
     by false = rw e refl
 
--- digits are text, so bytes that are none are no digits
-pub no_text : (w : List ℕ) → (IsUtf8 w → ⊥) → Err NotANumber ≡ number_of w
-no_text w not_text = by (list_all is_ascii_digit w) refl
-  where
-    by : (t : Bool) → list_all is_ascii_digit w ≡ t → Err NotANumber ≡ number_of w
-    by true e = absurd (not_text (IsUtf8-from_ascii w (IsAscii-from_digits w (own.to w e))))
-    by false e = no_digits w e
+-- digits only add to the number before them
+pub value_from_le : (n : ℕ) (bs : List ℕ) → n ≤ value_from n bs
+value_from_le n [] = omega arith
+value_from_le n (b ∷ bs) = omega (arith, value_from_le (10 * n + (b - 48)) bs)
 
--- what std parses digits to
-pub parsed : {E : Type 0} (w : List ℕ) (r : Result ℕ E) (got : Result ℕ WordFault) → ParsesUnsigned 32 10 w r → list_all is_ascii_digit w ≡ true → 0 < length w → MatchResult r (λ x. got ≡ Ok x) (λ _. got ≡ Err TooLarge) → got ≡ number_of w
-parsed {E} w r got h d some e = by r (parse_digits own 32 w r h d) e
+-- what digits tell of their first byte
+pub digits_front : (b : ℕ) (bs : List ℕ) → list_all is_ascii_digit (b ∷ bs) ≡ true → (48 ≤ b) × (b ≤ 57) × (list_all is_ascii_digit bs ≡ true)
+digits_front b bs h =
+    let two = and_parts (is_ascii_digit b) (list_all is_ascii_digit bs) h in
+    let d = and_parts (leb 48 b) (leb b 57) two.0 in
+    (leb-true 48 b d.0, leb-true b 57 d.1, two.1)
+
+-- a word of digits writes their number, where it fits
+pub valued : (w : List ℕ) (o : Option ℕ) (r : Result ℕ WordFault) → list_all is_ascii_digit w ≡ true → eqb (length w) 0 ≡ false → o ≡ cond (ltb (value_from 0 w) (2 ^ 32)) (Some (value_from 0 w)) None → r ≡ ok_or o TooLarge → r ≡ number_of w
+valued w o r d some v e = by (ltb (value_from 0 w) (2 ^ 32)) refl v
   where
-    by : (r : Result ℕ E) → OkIff r ((0 < length w) × (value_from 0 w < 2 ^ 32)) (value_from 0 w) → MatchResult r (λ x. got ≡ Ok x) (λ _. got ≡ Err TooLarge) → got ≡ number_of w
-    by (Ok x) k e = grind (arith, nat_tests)
-    by (Err f) k e = elim (cases_lt (value_from 0 w) (2 ^ 32)) [ inl small ↦ absurd (k (some, small)) | inr large ↦ grind (arith, nat_tests) ]
+    by : (t : Bool) → ltb (value_from 0 w) (2 ^ 32) ≡ t → o ≡ cond t (Some (value_from 0 w)) None → r ≡ number_of w
+    by true small v = rw (e, v, some, d, small)
+    by false large v = rw (e, v, some, d, large)
