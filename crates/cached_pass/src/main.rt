@@ -38,24 +38,37 @@ const COST: CostRow = CostRow {
 #[derive(Clone, Copy)]
 pub struct Note {
     call: &'static str,
-    answer: Result<Said, Refusal>,
+    answer: Said,
 }
 
-// What each call answered so far.
+// What each call answered so far. No heap: the story is printed whole where there is no memory, so
+// the notes are an array with a count.
 #[derive(Drop)]
 pub struct Log {
-    notes: Vec<Note>,
+    notes: [Note; MOST_NOTES],
+    count: usize,
 }
 
-// At least as many as the story has calls. Their room is made before the first, so that no note
-// can fail while a pass is out.
+// At least as many as the story has calls.
 const MOST_NOTES: usize = 32;
 
 impl Log {
-    fn note<A: Into<Said>>(&mut self, call: &'static str, answer: Result<A, Refusal>) {
-        let answer = answer.map(A::into);
-        if self.notes.len() < self.notes.capacity() {
-            self.notes.push(Note { call, answer }).unwrap();
+    fn new() -> Log {
+        let blank = Note {
+            call: "",
+            answer: Said::Done,
+        };
+        Log {
+            notes: [blank; MOST_NOTES],
+            count: 0,
+        }
+    }
+
+    fn note<A: Into<Said>>(&mut self, call: &'static str, answer: A) {
+        let answer = answer.into();
+        if let Some(note) = self.notes.get_mut(self.count) {
+            *note = Note { call, answer };
+            self.count += 1;
         }
     }
 }
@@ -79,7 +92,7 @@ fn admit(
     call: &'static str,
 ) -> Result<Pass, Refusal> {
     let pass = book.admit(marks, contributor)?;
-    log.note(call, Ok(Said::Pass(pass.number())));
+    log.note(call, Said::Pass(pass.number()));
     Ok(pass)
 }
 
@@ -157,8 +170,7 @@ fn bill_by<R: SharingRule>(
         &mut stations,
         &mut credits,
     );
-    let said = answer.map(|left| Said::bill(left, charges, stations, credits));
-    log.note(call, said);
+    log.note(call, Said::bill(answer, charges, stations, credits));
 }
 
 fn bill(book: &FrozenBook, units: &[UnitRow], costs: &[CostRow], log: &mut Log) {
@@ -177,11 +189,11 @@ fn bill(book: &FrozenBook, units: &[UnitRow], costs: &[CostRow], log: &mut Log) 
 fn freeze(book: OpenBook, marks: &[u32], log: &mut Log) -> Result<FrozenBook, OpenBook> {
     match book.freeze(marks) {
         Ok(frozen) => {
-            log.note("freeze", Ok(()));
+            log.note("freeze", Said::Done);
             Ok(frozen)
         }
         Err((open, refusal)) => {
-            log.note("freeze", Err::<(), Refusal>(refusal));
+            log.note("freeze", refusal);
             Err(open)
         }
     }
@@ -227,7 +239,7 @@ fn settle(
             bill(&frozen, units, costs, log);
             log.note("take in the cached pass", frozen.take_in(marks, contractor));
             let open = frozen.reopen();
-            log.note("reopen", Ok(()));
+            log.note("reopen", Said::Done);
             admit_again(open, units, costs, marks, log)
         }
         Err(open) => {
@@ -242,7 +254,7 @@ fn play(log: &mut Log) -> Result<(), Refusal> {
     let mut costs = [NO_COST; 4];
     let mut marks = [0; 64];
     let mut book = OpenBook::open(SIZES, 7, &mut marks)?;
-    log.note("open", Ok(()));
+    log.note("open", Said::Done);
     let analyst = admit(&mut book, &mut marks, ANALYST, log, "admit the analyst")?;
     // no `?`: the analyst's pass has to be handed in before an error goes on
     let contractor = match admit(
@@ -278,21 +290,12 @@ fn play(log: &mut Log) -> Result<(), Refusal> {
 }
 
 fn main(rt: HostRuntime) -> anyhow::Result<()> {
-    let mut log = Log {
-        notes: Vec::with_capacity(rt.alloc(), MOST_NOTES)?,
-    };
-    let played = play(&mut log);
-    if played.is_err() {
-        log.note("stopped", played);
+    let mut log = Log::new();
+    if let Err(refusal) = play(&mut log) {
+        log.note("stopped", refusal);
     }
-    for Note { call, answer } in &log.notes {
-        match answer {
-            Ok(said) => println!(rt; "{call}: {said}")?,
-            Err(refusal) => {
-                let number = refusal.number();
-                println!(rt; "{call}: refused {number}")?;
-            }
-        }
+    for Note { call, answer } in log.notes.iter().take(log.count) {
+        println!(rt; "{call}: {answer}")?;
     }
     Ok(())
 }

@@ -1,9 +1,10 @@
 // What the calls of the story answered.
 ghost use Rattle.std.specs.Prelude.{◌≡◌};
-ghost use Rattle.cached_pass.specs.Said.{said_row, said_done, said_bill};
+ghost use Rattle.cached_pass.specs.Said.{said_refused, said_row, said_done, said_bill};
 
 use bill_rules::Remainders;
 use std::fmt;
+use tariff::Refusal;
 
 // All that an accepted bill of three customers gives.
 #[derive(Clone, Copy)]
@@ -14,42 +15,67 @@ pub struct Billed {
     pub left: Remainders,
 }
 
-// What an accepted call answered: done, the number of a pass or of a row, or the figures of a bill.
+// What a call answered: done, the number of a pass or of a row, the figures of a bill, or the number
+// of a refusal. The number and no `Refusal`: printing has no contract, so what is proved has to reach
+// the number itself.
 #[derive(Clone, Copy)]
 pub enum Said {
     Done,
     Pass(u32),
     Row(usize),
     Bill(Billed),
+    Refused(u8),
 }
 
-impl From<()> for Said {
-    ghost from_gives = { λ done said. said ≡ said_done done };
+impl From<Refusal> for Said {
+    ghost from_gives = { λ refusal said. said ≡ said_refused refusal };
 
-    fn from(_done: ()) -> Self {
-        Self::Done
+    fn from(refusal: Refusal) -> Self {
+        Self::Refused(refusal.number())
     }
 }
 
-impl From<usize> for Said {
-    ghost from_gives = { λ row said. said ≡ said_row row };
+impl From<Result<(), Refusal>> for Said {
+    ghost from_gives = { λ answer said. said ≡ said_done answer };
 
-    fn from(row: usize) -> Self {
-        Self::Row(row)
+    fn from(answer: Result<(), Refusal>) -> Self {
+        match answer {
+            Ok(()) => Self::Done,
+            Err(refusal) => Self::from(refusal),
+        }
+    }
+}
+
+impl From<Result<usize, Refusal>> for Said {
+    ghost from_gives = { λ answer said. said ≡ said_row answer };
+
+    fn from(answer: Result<usize, Refusal>) -> Self {
+        match answer {
+            Ok(row) => Self::Row(row),
+            Err(refusal) => Self::from(refusal),
+        }
     }
 }
 
 impl Said {
     // A bill is no `From`, since its figures stand in the columns beside the answer.
-    pub fn bill(left: Remainders, charges: [u64; 3], stations: [u64; 3], credits: [u64; 3]) -> Said
-        ensures { result ≡ said_bill left charges stations credits }
+    pub fn bill(
+        answer: Result<Remainders, Refusal>,
+        charges: [u64; 3],
+        stations: [u64; 3],
+        credits: [u64; 3],
+    ) -> Said
+        ensures { result ≡ said_bill answer charges stations credits }
     {
-        Said::Bill(Billed {
-            charges,
-            stations,
-            credits,
-            left,
-        })
+        match answer {
+            Ok(left) => Said::Bill(Billed {
+                charges,
+                stations,
+                credits,
+                left,
+            }),
+            Err(refusal) => Said::from(refusal),
+        }
     }
 }
 
@@ -77,6 +103,7 @@ impl fmt::Display for Said {
             Said::Pass(number) => write!(f, "pass {number}"),
             Said::Row(number) => write!(f, "row {number}"),
             Said::Bill(billed) => write!(f, "{billed}"),
+            Said::Refused(number) => write!(f, "refused {number}"),
         }
     }
 }
