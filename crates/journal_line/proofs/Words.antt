@@ -1,5 +1,5 @@
 -- The first word of a line, and the words of the calls and of the rules. Assumes nothing.
-use Rattle.std.proofs.Common.{◌≡◌, ℕ, Bool, true, false, cond, eqb, ◌≢◌, List, [], ◌∷◌, ◌++◌, Some, None, Ok, Err, Option, Result, MatchResult, Bor, codes, All, IsUtf8, rules, sym, refl, ap, ◌∙◌, subst, ⊎_elim}
+use Rattle.std.proofs.Common.{◌≡◌, ℕ, ◌≤◌, Bool, true, false, cond, eqb, ◌≢◌, List, [], ◌∷◌, ◌++◌, length, Some, None, Ok, Err, Option, Result, MatchResult, Bor, codes, All, IsUtf8, rules, sym, refl, ap, ◌∙◌, subst, ⊎_elim, arith}
 use Rattle.std.proofs.lemmas.Bool.{cases_eq, ne_eqb, eq-eqb}
 use Rattle.std.proofs.lemmas.Str.{IsUtf8-from_ascii}
 use Rattle.std.proofs.lemmas.List.Elements.{recursion_from_All}
@@ -14,7 +14,7 @@ use Rattle.sharing.specs.declared.names.RuleName.{RuleName}
 use Rattle.sharing.specs.declared.names.RuleName.TheVariants.{Down, Running}
 use Rattle.sharing.specs.Names.{rule_word, Names}
 
--- a word without a space that is not the first word of a line
+-- a word without a space that is not the first word of a line; a longer one may go on behind `word`
 
 spaceless : List ℕ → Bool
 spaceless [] = true
@@ -31,22 +31,25 @@ spaceless_tail : (t u : Bool) → cond t false u ≡ true → u ≡ true
 spaceless_tail true u h = cc
 spaceless_tail false u h = h
 
-other_word : (w word rest : List ℕ) → spaceless w ≡ true → AllByRecursion (λ b. b ≢ 32) word → word_ends rest ≡ Some rest → word ≢ w → after_first w (word ++ rest) ≡ None
+other_word : (w word rest : List ℕ) → spaceless w ≡ true → AllByRecursion (λ b. b ≢ 32) word → (length word ≤ length w → word_ends rest ≡ Some rest) → word ≢ w → after_first w (word ++ rest) ≡ None
 unfolding spaceless
 other_word [] [] rest s far ends n = absurd (n refl)
 other_word [] (b ∷ bs) rest s far ends n = rw (ne_eqb b 32 far.0)
 other_word (x ∷ xs) [] [] s far ends n = refl
-other_word (x ∷ xs) [] (c ∷ cs) s far ends n = other_end x c xs cs s ends
+other_word (x ∷ xs) [] (c ∷ cs) s far ends n = other_end x c xs cs s (ends (omega arith))
 other_word (x ∷ xs) (b ∷ bs) rest s far ends n = ⊎_elim
-    (λ e. rw (eq-eqb b x e) (other_word xs bs rest (spaceless_tail (eqb x 32) (spaceless xs) s) far.1 ends (λ same. n cc)))
+    (λ e. rw (eq-eqb b x e) (other_word xs bs rest (spaceless_tail (eqb x 32) (spaceless xs) s) far.1 (λ short. ends (omega arith)) (λ same. n cc)))
     (λ differs. rw (ne_eqb b x differs))
     (cases_eq b x)
 
-pub unknown : (word rest : List ℕ) → All (λ b. b ≢ 32) word → word_ends rest ≡ Some rest → Calls word None → None ≡ call_in (word ++ rest)
+call_short : (name : CallName) → length (call_word name) ≤ 7
+call_short name = grind arith
+
+pub unknown : (word rest : List ℕ) → All (λ b. b ≢ 32) word → (length word ≤ 7 → word_ends rest ≡ Some rest) → Calls word None → None ≡ call_in (word ++ rest)
 unfolding spaceless
 unknown word rest far ends n =
     let f = recursion_from_All (λ (b : ℕ). b ≢ 32) word far in
-    let other = λ (name : CallName) (s : spaceless (call_word name) ≡ true). other_word (call_word name) word rest s f ends (n name) in
+    let other = λ (name : CallName) (s : spaceless (call_word name) ≡ true). other_word (call_word name) word rest s f (λ short. ends (omega (arith, call_short name))) (n name) in
     sym (rw (other Open refl, other Admit refl, other Remove refl, other HandIn refl, other TakeIn refl, other Post refl, other Correct refl, other Cost refl, other Freeze refl, other Reopen refl, other Bill refl))
 
 -- the name of a rule behind a space

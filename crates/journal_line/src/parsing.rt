@@ -1,5 +1,5 @@
 // Reads one line of a journal.
-ghost use Rattle.std.specs.Prelude.{◌≡◌, ◌≢◌, ◌++◌, All, Some};
+ghost use Rattle.std.specs.Prelude.{◌≡◌, ◌≢◌, ◌≤◌, ◌++◌, length, All, Some};
 ghost use Rattle.journal_line.specs.Lines.{word_ends, call_in, opening_in, unit_row_in, cost_row_in, post_in, correct_in, cost_in, rule_in, bill_in, fields_in, line_in};
 ghost use Rattle.std.specs.Option.{option_map};
 
@@ -13,18 +13,26 @@ use tariff::{CostRow, Sizes, UnitRow};
 // Separates the words of a line.
 const SPACE: u8 = b' ';
 
+// How long the longest words of the calls and of the rules are: `hand-in` and `running`.
+const LONGEST: usize = 7;
+
 // The most rows that a journal's tables can have.
 const MOST_UNIT_ROWS: u64 = 65_536;
 
 const MOST_COST_ROWS: u64 = 16_384;
 
-// The first word of a line, and what follows it.
+// The first word of a line, or the first eight bytes of a longer one, and what follows.
 fn first_word<'a>(line: &'a [u8]) -> (&'a [u8], &'a [u8])
     ensures whole { line.now ≡ result.0.now ++ result.1.now }
     ensures word { All (λ b. b ≢ 32) result.0.now }
-    ensures ends { word_ends result.1.now ≡ Some result.1.now }
+    ensures ends { length result.0.now ≤ 7 → word_ends result.1.now ≡ Some result.1.now }
 {
-    let end = line.iter().position(|b| *b == SPACE).unwrap_or(line.len());
+    // a call's word and the space behind it lie in these bytes, however long the line is
+    let front = &line[..line.len().min(LONGEST + 1)];
+    let end = front
+        .iter()
+        .position(|b| *b == SPACE)
+        .unwrap_or(front.len());
     line.split_at(end)
 }
 
@@ -127,6 +135,10 @@ fn rule_in(text: &[u8]) -> Option<RuleName>
     ensures { result ≡ rule_in text.now }
 {
     let word = text.strip_prefix(b" ")?;
+    // what is longer than a rule's word is not read to its end
+    if word.len() > LONGEST {
+        return None;
+    }
     RuleName::named(str::from_utf8(word).ok()?)
 }
 

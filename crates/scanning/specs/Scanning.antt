@@ -2,12 +2,10 @@
 --   bind, or_else        go on with what was read, or stop; or try the next form
 --   after_word           what follows a word, if the text begins with it
 --   is_digit, on_digits  the number of the digits at the front, with what follows them
---   value_in             the number of digits with nothing behind them, one at least, not above a limit
 --   number_in            such a number, of one digit at least and not above a limit
 --   field_in             a word and the number behind it
 --   at_end               a value, if the text is at its end
 use Rattle.std.specs.Prelude.{ℕ, ◌+◌, ◌-◌, ◌*◌, Bool, cond, ◌&&◌, List, [], ◌∷◌, Some, None, Option, ◌==◌, nat_le, nat_lt}
-use Rattle.std.specs.Option.{option_map}
 
 abbrev pub bind : {X Y : Type 0} → Option X → (X → Option Y) → Option Y
 bind None f = None
@@ -28,10 +26,6 @@ is_digit b = nat_le 48 b && nat_le b 57
 abbrev pub on_digits : ℕ → ℕ → List ℕ → Option (ℕ × List ℕ)
 on_digits most n [] = Some (n, [])
 on_digits most n (b ∷ bs) = cond (is_digit b) (cond (nat_lt most (n * 10 + (b - 48))) None (on_digits most (n * 10 + (b - 48)) bs)) (Some (n, b ∷ bs))
-
-abbrev pub value_in : ℕ → List ℕ → Option ℕ
-value_in most [] = None
-value_in most (d ∷ ds) = option_map (λ p. p.0) (on_digits most 0 (d ∷ ds))
 
 abbrev pub number_in : ℕ → List ℕ → Option (ℕ × List ℕ)
 number_in most [] = None

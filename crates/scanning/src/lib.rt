@@ -1,9 +1,8 @@
 // Words and numbers at the front of a text.
 #![tactic(auto)]
 
-ghost use Rattle.std.specs.Prelude.{◌≡◌, ◌≤◌, true, IfSome};
-ghost use Rattle.scanning.specs.Scanning.{after_word, is_digit, value_in, number_in, field_in, at_end};
-ghost use Rattle.std.specs.List.{list_all, prefix_len};
+ghost use Rattle.std.specs.Prelude.{◌≡◌, ◌≤◌, IfSome};
+ghost use Rattle.scanning.specs.Scanning.{after_word, number_in, field_in, at_end};
 ghost use Rattle.std.specs.Option.{option_map};
 
 pub mod unsigned;
@@ -15,32 +14,6 @@ pub fn after_word<'a>(text: &'a [u8], word: &[u8]) -> Option<&'a [u8]>
     ensures { option_map (λ x. x.now) result ≡ after_word word.now text.now }
 {
     text.strip_prefix(word)
-}
-
-// How many digits stand at the front.
-fn digit_count(text: &[u8]) -> usize
-    ensures { result ≡ prefix_len is_digit text.now }
-{
-    text.iter().take_while(|b| b.is_ascii_digit()).count()
-}
-
-// The number that digits say, if there are any.
-fn value_of(digits: &[u8], most: u64) -> Option<u64>
-    requires { list_all is_digit digits.now ≡ true }
-    ensures value { result ≡ value_in most digits.now }
-    ensures bound { IfSome result (λ n. n ≤ most) }
-{
-    if digits.is_empty() {
-        return None;
-    }
-    let mut value: u64 = 0;
-    for digit in digits {
-        value = value.checked_mul(10)?.checked_add((*digit - b'0') as u64)?;
-        if value > most {
-            return None;
-        }
-    }
-    Some(value)
 }
 
 // A value, if the text is at its end.
@@ -55,8 +28,23 @@ pub fn number<'a>(text: &'a [u8], most: u64) -> Option<(u64, &'a [u8])>
     ensures value { option_map (λ p. (p.0, p.1.now)) result ≡ number_in most text.now }
     ensures bound { IfSome result (λ p. p.0 ≤ most) }
 {
-    let (digits, rest) = text.split_at(digit_count(text));
-    Some((value_of(digits, most)?, rest))
+    if !text.first()?.is_ascii_digit() {
+        return None;
+    }
+    let mut value: u64 = 0;
+    for (place, digit) in text.iter().enumerate() {
+        if !digit.is_ascii_digit() {
+            return Some((value, &text[place..]));
+        }
+        value = value
+            .checked_mul(10)?
+            .checked_add(u64::from(*digit - b'0'))?;
+        // a long run of digits is left at the first digit too many
+        if value > most {
+            return None;
+        }
+    }
+    Some((value, &[]))
 }
 
 // A word, and the number behind it.
