@@ -6,14 +6,14 @@ ghost use Rattle.share_report.specs.Report.{report_of};
 ghost use Rattle.share_report.specs.Shown.{Answers};
 ghost use Rattle.share.specs.Answer.{LeftShown};
 
-use share_report::ShareError;
 use share_report::report::report_on;
+use share_report::{ErrorLine, ShareError};
 use std::alloc::Global;
 use std::io::Read;
 use std::process::ExitCode;
 
 // The answer to what was read.
-pub fn answer_to<'a>(heap: Global, input: &'a [u8]) -> Result<String, ShareError<'a>>
+pub fn answer_to(heap: Global, input: &[u8]) -> Result<String, ShareError>
     ensures answers { Answers result (report_of input.now) }
     ensures left { LeftShown }
 {
@@ -30,7 +30,7 @@ fn main(rt: HostRuntime) -> anyhow::Result<ExitCode> {
         }
         Err(error @ ShareError::OutOfMemory) => Err(error.into()),
         Err(error) => {
-            rt.eprintln(error)?;
+            rt.eprint(ErrorLine(error))?;
             Ok(ExitCode::FAILURE)
         }
     }

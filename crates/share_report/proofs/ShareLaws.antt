@@ -1,12 +1,20 @@
--- A column that a rule has filled, and the table of two such columns. Assumes nothing.
-use Rattle.std.proofs.Common.{◌≡◌, ℕ, suc, ◌+◌, ◌<◌, true, List, [], ◌∷◌, ◌++◌, length, get_or, Ok, sym, refl, ap, ◌∙◌, arith}
+-- A column that a rule has filled, the table of two such columns, and the line of an error. Assumes nothing.
+use Rattle.std.proofs.Common.{◌≡◌, ℕ, suc, ◌+◌, ◌<◌, true, false, List, [], ◌∷◌, ◌++◌, length, get_or, map, take, codes, decimal, Ok, Err, Option, Result, sym, refl, ap, ◌∙◌, append_assoc, arith, Global}
 use Rattle.std.specs.List.{range_with_len, flat_map, enumerate_from, zip}
-use Rattle.tariff.proofs.Refused.{ok_tells}
+use Rattle.std.proofs.lemmas.List.{take-take}
+use Rattle.tariff.proofs.Refused.{ok_tells, err_tells}
+use Rattle.tariff.specs.declared.refusal.Refusal.{Refusal}
+use Rattle.tariff.specs.Refusals.{words as refusal_words, answer}
+use Rattle.text.specs.Words.{fault_words}
 use Rattle.sharing.specs.declared.Division.{Division}
 use Rattle.sharing.specs.Rule.{share_refusal, division}
 use Rattle.sharing.specs.Rules.{down, running}
 use Rattle.sharing.specs.Laws.{down_lawful, running_lawful}
-use Rattle.share_report.specs.Report.{row_text, row_of, row, head_of, foot_of, table_text, shares_of, divided_by}
+use Rattle.share_report.specs.declared.error.ShareError.{ShareError}
+use Rattle.share_report.specs.declared.error.ShareError.TheVariants.{Misread, NothingToShare, Refused, OutOfMemory}
+use Rattle.share_report.specs.Numbers.{BadWord, cut_short}
+use Rattle.share_report.specs.Report.{row_text, row_of, row, head_of, foot_of, table_text, shares_of, shown_byte, shown_word, divided_by, answered}
+use Rattle.share_report.specs.Shown.{Reads, Divides, Answers}
 
 -- rows from a customer on, by the entries or by their numbers
 rows_from : (f : ℕ → List ℕ) (k : ℕ) (us ds rs : List ℕ) → length ds ≡ length us → length rs ≡ length us →
@@ -32,3 +40,35 @@ tabled pool units d r text ed er et =
     ap (λ t. (true, t)) (et ∙ ap (λ x. table_text pool units x r) td.1 ∙ ap (table_text pool units (down pool units, division down pool units)) tr.1
     ∙ ap (λ t. (head_of pool ++ t) ++ foot_of (division down pool units) (division running pool units)) rows)
     ∙ sym (ap (λ o. divided_by o pool units) td.0)
+
+-- what is said of a word that is cut to what is shown of it is what is said of the word
+answered_cut : (means : Result (List ℕ) BadWord) → answered (cut_short means) ≡ answered means
+answered_cut (Ok ns) = refl
+answered_cut (Err e) =
+    ap (λ w. (false, codes "share: word " ++ (decimal e.place ++ (codes ", \"" ++ (map shown_byte w ++ (codes "\", " ++ (fault_words e.fault ++ codes "\n")))))))
+    (take-take 40 40 e.word (omega arith))
+
+-- the words for a bad word and a line end are its line
+bad_line : (place word fault : List ℕ) →
+    (codes "share: " ++ (codes "word " ++ (place ++ (codes ", \"" ++ (word ++ (codes "\", " ++ fault)))))) ++ codes "\n"
+    ≡ codes "share: word " ++ (place ++ (codes ", \"" ++ (word ++ (codes "\", " ++ (fault ++ codes "\n")))))
+bad_line place word fault =
+    ap (λ t. codes "share: word " ++ t)
+    (append_assoc place (codes ", \"" ++ (word ++ (codes "\", " ++ fault))) (codes "\n")
+    ∙ ap (λ t. place ++ (codes ", \"" ++ t)) (append_assoc word (codes "\", " ++ fault) (codes "\n")))
+
+-- a text whose numbers were not read is answered by the line of the error
+pub not_read : (e : ShareError) (means : Result (List ℕ) BadWord) → Reads {Z = Global} (Err e) means → Answers {Z = Global} (Err e) (answered means)
+not_read (Misread m) means h =
+    ap (λ t. (false, t)) (bad_line (decimal m.place) (shown_word (take m.word.length m.word.bytes)) (fault_words m.fault)) ∙ ap answered h ∙ answered_cut means
+not_read NothingToShare means h = absurd h
+not_read (Refused r) means h = absurd h
+not_read OutOfMemory means h = h
+
+-- what a rule refused is answered by the line of the error
+pub not_divided : (e : ShareError) (o : Option Refusal) (x : List ℕ × Division) (pool : ℕ) (units : List ℕ) → Divides (Err e) (answer o x) → Answers {Z = Global} (Err e) (divided_by o pool units)
+not_divided (Misread m) o x pool units h = absurd h
+not_divided NothingToShare o x pool units h = absurd h
+not_divided (Refused r) o x pool units h =
+    ap (λ t. (false, t)) (append_assoc (codes "share: ") (refusal_words r) (codes "\n")) ∙ sym (ap (λ t. divided_by t pool units) (err_tells o r x h))
+not_divided OutOfMemory o x pool units h = h

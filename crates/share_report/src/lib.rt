@@ -2,8 +2,10 @@
 #![tactic(auto)]
 
 mod error;
+mod excerpt;
 mod numbers;
 pub mod report;
 mod table;
 
-pub use error::{Misread, ShareError};
+pub use error::{ErrorLine, Misread, ShareError};
+pub use excerpt::Excerpt;

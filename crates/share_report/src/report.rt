@@ -11,7 +11,7 @@ use sharing::{Down, Running};
 use std::alloc::Global;
 
 // The table of a pool and the units of each customer.
-fn divided<'e>(heap: Global, pool: u32, units: &[u32]) -> Result<String, ShareError<'e>>
+fn divided(heap: Global, pool: u32, units: &[u32]) -> Result<String, ShareError>
     ensures { Answers result (divided_by (share_refusal pool units.now (length units.now)) pool units.now) }
 {
     let down = Shares::by(&mut Down, heap, pool, units)?;
@@ -26,7 +26,7 @@ fn divided<'e>(heap: Global, pool: u32, units: &[u32]) -> Result<String, ShareEr
 }
 
 // The table of a text: a pool of cents and then the units of each customer.
-pub fn report_on<'a>(heap: Global, text: &'a [u8]) -> Result<String, ShareError<'a>>
+pub fn report_on(heap: Global, text: &[u8]) -> Result<String, ShareError>
     ensures { Answers result (report_of text.now) }
 {
     let numbers = read_numbers(heap, text)?;

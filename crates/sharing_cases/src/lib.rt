@@ -3,6 +3,7 @@
 
 #[cfg(test)]
 mod tests {
+    use share_report::ErrorLine;
     use share_report::report::report_on;
     use sharing::{Division, Down, Running, SharingRule, divide};
     use std::test::Fail;
@@ -189,7 +190,8 @@ mod tests {
         ];
         for (input, line) in cases {
             let error = report_on(heap, input).expect_err(&rt, "a line that says why");
-            let told = format!(in heap; "{error}\n")?;
+            let error_line = ErrorLine(error);
+            let told = format!(in heap; "{error_line}")?;
             assert_eq!(rt; told.as_str(), line);
         }
         Ok(())
