@@ -66,9 +66,10 @@ impl Log {
 
     fn note<A: Into<Said>>(&mut self, call: &'static str, answer: A) {
         let answer = answer.into();
-        if let Some(note) = self.notes.get_mut(self.count) {
+        let place = self.count;
+        if let Some(note) = self.notes.get_mut(place) {
             *note = Note { call, answer };
-            self.count += 1;
+            self.count = place + 1;
         }
     }
 }
