@@ -28,7 +28,7 @@ impl RowFigures {
     ghost use Rattle.line_rows.specs.Rows.{figureless};
 
     // Whether all figures are 0.
-    pub fn is_figureless(self) -> bool
+    pub(crate) fn is_figureless(self) -> bool
         ensures { result ≡ figureless self.charge self.station self.credit }
     {
         self == RowFigures::default()
@@ -36,7 +36,7 @@ impl RowFigures {
 }
 
 impl Columns<'_> {
-    pub fn totals(&self) -> RowFigures
+    pub(crate) fn totals(&self) -> RowFigures
         ensures { (result.charge ≡ sum self.now.charges.now) × (result.station ≡ sum self.now.stations.now) × (result.credit ≡ sum self.now.credits.now) }
     {
         RowFigures {

@@ -16,10 +16,11 @@ ghost use Rattle.line_rows.specs.Writing.{most_rows};
 use book::FrozenBook;
 use buffer::put_bytes;
 use columns::Columns;
-use rows::line_text;
+use rows::push_line;
 use sharing::SharingRule;
 use tariff::limits::MOST_CUSTOMERS;
 use tariff::{CostRow, Refusal, UnitRow};
+use text::RowText;
 
 // Bytes that the rows of one line never pass.
 pub const MOST_LINE_BYTES: usize = 27_648;
@@ -59,6 +60,7 @@ pub fn put_bill<R: SharingRule>(
         stations,
         credits,
     };
-    let text = line_text(line, &columns, left);
+    let mut text = RowText::new();
+    push_line(&mut text, line, &columns, left);
     put_bytes(out, place, text.bytes())
 }

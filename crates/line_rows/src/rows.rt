@@ -1,5 +1,5 @@
 // The rows of a line, as text.
-ghost use Rattle.std.specs.Prelude.{◌≡◌, ◌+◌, ◌*◌, ◌≤◌, ◌++◌, length};
+ghost use Rattle.std.specs.Prelude.{◌≡◌, ◌+◌, ◌*◌, ◌≤◌, [], ◌++◌, length};
 ghost use Rattle.std.specs.List.{range_with_len, flat_map};
 ghost use Rattle.tariff.specs.Limits.{most_customers};
 ghost use Rattle.line_rows.specs.Rows.{field, signed_field, row_text, row_unless, customer_row, sum_text, line_text};
@@ -85,12 +85,12 @@ fn push_sum(text: &mut RowText, line: u8, totals: RowFigures, left: Remainders)
     text.push_bytes(b"\n");
 }
 
-// All rows of a line.
-pub(crate) fn line_text(line: u8, columns: &Columns, left: Remainders) -> RowText
-    ensures { result ≡ line_text line (record { charges = columns.now.charges.now; stations = columns.now.stations.now; credits = columns.now.credits.now; short = left.short; over = left.over; stranded = left.stranded }) }
+// All rows of a line, into a text that is empty. It is the caller's: a text that is handed back is
+// copied, with all its room.
+pub(crate) fn push_line(text: &mut RowText, line: u8, columns: &Columns, left: Remainders)
+    requires { text.old ≡ [] }
+    ensures { text.new ≡ line_text line (record { charges = columns.now.charges.now; stations = columns.now.stations.now; credits = columns.now.credits.now; short = left.short; over = left.over; stranded = left.stranded }) }
 {
-    let mut text = RowText::new();
-    push_customers(&mut text, line, columns);
-    push_sum(&mut text, line, columns.totals(), left);
-    text
+    push_customers(text, line, columns);
+    push_sum(text, line, columns.totals(), left);
 }

@@ -53,7 +53,7 @@ impl Model for RowText {
 }
 
 impl RowText {
-    pub fn new() -> RowText
+    pub(crate) fn new() -> RowText
         ensures { result ≡ [] }
     {
         RowText {
@@ -62,20 +62,20 @@ impl RowText {
         }
     }
 
-    pub fn bytes(&self) -> &[u8]
+    pub(crate) fn bytes(&self) -> &[u8]
         ensures { result.now ≡ self.now }
     {
         &self.bytes[..self.length]
     }
 
-    pub fn push_bytes(&mut self, bytes: &[u8])
+    pub(crate) fn push_bytes(&mut self, bytes: &[u8])
         requires { length self.old + length bytes.now ≤ most_line }
         ensures { self.new ≡ self.old ++ bytes.now }
     {
         self.length = put_bytes(&mut self.bytes, self.length, bytes).unwrap();
     }
 
-    pub fn push_number<N: Decimal>(&mut self, number: N)
+    pub(crate) fn push_number<N: Decimal>(&mut self, number: N)
         requires { length self.old + 20 ≤ most_line }
         ensures pushed { self.new ≡ self.old ++ N.digits number }
         ensures near { length self.new ≤ length self.old + 20 }
@@ -84,7 +84,7 @@ impl RowText {
     }
 
     // A number behind a space.
-    pub fn push_field<N: Decimal>(&mut self, number: N)
+    pub(crate) fn push_field<N: Decimal>(&mut self, number: N)
         requires { length self.old + 21 ≤ most_line }
         ensures pushed { self.new ≡ self.old ++ (codes " " ++ N.digits number) }
         ensures near { length self.new ≤ length self.old + 21 }

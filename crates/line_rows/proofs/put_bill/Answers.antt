@@ -59,5 +59,5 @@ returns g c =
     let short : SFits w64 c.in_ok-left.left.short = search rules in
     let over : SFits w64 c.in_ok-left.left.over = search rules in
     let stranded : SFits w64 c.in_ok-left.left.stranded = search rules in
-    let put = put_rows c.args.out.now c.args.place n whole f c.bytes.result.now c.put_bytes.new.out c.put_bytes.result is (c.bytes.ensures ∙ c.line_text-text.ensures) c.put_bytes.ensures.answers c.put_bytes.ensures.out in
+    let put = put_rows c.args.out.now c.args.place n whole f c.bytes.result.now c.put_bytes.new.out c.put_bytes.result is (c.bytes.ensures ∙ c.push_line.ensures) c.put_bytes.ensures.answers c.put_bytes.ensures.out in
     record { answers = put.0; out = put.1; short = rows_have n whole f (λ rows. length rows ≤ most_rows n) is (rows_fit n b.sizes f small short over stranded); lawful = law; means = c.in_ok-left.ensures.means }
