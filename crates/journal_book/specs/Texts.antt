@@ -1,10 +1,11 @@
 -- What a journal answers, as text. Each answer ends with a line end.
 --   told_text     what a refusal tells, behind its number
 --   refusal_text  a refusal: its number, and what it tells
+--   fixed_words   the line of a reply that tells no number
 --   reply_words   a reply, with the buffer that the rows of a bill stand in
 --   reply_text    the text for a command, with a buffer of so many bytes for the rows of a bill
 --   replay_text   the texts for a list of commands
-use Rattle.std.specs.Prelude.{ℕ, List, [], ◌∷◌, ◌++◌, take, codes, decimal}
+use Rattle.std.specs.Prelude.{ℕ, List, [], ◌∷◌, ◌++◌, take, Some, None, codes, decimal, Option}
 use Rattle.tariff.specs.declared.refusal.Refusal.{Refusal}
 use Rattle.tariff.specs.declared.refusal.Told.{Told}
 use Rattle.tariff.specs.declared.refusal.Told.TheVariants.{Nothing, Row as RowTold, AreaAndDay, Place}
@@ -26,6 +27,19 @@ told_text (Place place) = codes " " ++ (decimal place ++ codes "\n")
 
 abbrev pub refusal_text : Refusal → List ℕ
 refusal_text e = codes "refused " ++ (decimal (number e) ++ told_text (told e))
+
+abbrev pub fixed_words : Reply → Option (List ℕ)
+fixed_words (Pass n) = None
+fixed_words Removed = Some (codes "removed\n")
+fixed_words HandedIn = Some (codes "handed in\n")
+fixed_words (Row n) = None
+fixed_words Corrected = Some (codes "corrected\n")
+fixed_words Frozen = Some (codes "frozen\n")
+fixed_words Open = Some (codes "open\n")
+fixed_words (Billed n) = None
+fixed_words (Refused e) = None
+fixed_words NotOffered = Some (codes "not offered\n")
+fixed_words (NoPass n) = None
 
 abbrev pub reply_words : List ℕ → Reply → List ℕ
 reply_words out (Pass n) = codes "pass " ++ (decimal n ++ codes "\n")

@@ -1,6 +1,7 @@
 // What a journal answers, as text.
 ghost use Rattle.std.specs.Prelude.{◌≡◌, ◌++◌, [], is_ok, if◌then◌else◌, Some, Err, MatchResult};
-ghost use Rattle.journal_book.specs.Texts.{refusal_text, reply_words};
+ghost use Rattle.std.specs.Option.{option_map};
+ghost use Rattle.journal_book.specs.Texts.{refusal_text, fixed_words, reply_words};
 
 use crate::replies::Reply;
 use std::alloc::AllocError;
@@ -26,6 +27,23 @@ impl fmt::Display for RefusalLine {
     }
 }
 
+impl Reply {
+    // The line of a reply that tells no number: it needs no memory of its own.
+    fn fixed_line(self) -> Option<&'static str>
+        ensures { option_map (λ line. line.now) result ≡ fixed_words self }
+    {
+        match self {
+            Reply::Removed => Some("removed\n"),
+            Reply::HandedIn => Some("handed in\n"),
+            Reply::Corrected => Some("corrected\n"),
+            Reply::Frozen => Some("frozen\n"),
+            Reply::Open => Some("open\n"),
+            Reply::NotOffered => Some("not offered\n"),
+            _ => None,
+        }
+    }
+}
+
 // The line of a reply; of a bill none, since its rows stand in the buffer.
 impl fmt::Display for Reply {
     ghost output = { λ reply. Some (reply_words [] reply) };
@@ -33,19 +51,19 @@ impl fmt::Display for Reply {
     fn fmt<W: fmt::Write>(&self, f: &mut fmt::Formatter<W>) -> fmt::Result {
         match *self {
             Reply::Pass(number) => writeln!(f, "pass {number}"),
-            Reply::Removed => f.write_str("removed\n"),
-            Reply::HandedIn => f.write_str("handed in\n"),
             Reply::Row(row) => writeln!(f, "row {row}"),
-            Reply::Corrected => f.write_str("corrected\n"),
-            Reply::Frozen => f.write_str("frozen\n"),
-            Reply::Open => f.write_str("open\n"),
-            Reply::Billed(_) => f.write_str(""),
             Reply::Refused(refusal) => {
                 let line = RefusalLine(refusal);
                 write!(f, "{line}")
             }
-            Reply::NotOffered => f.write_str("not offered\n"),
             Reply::NoPass(number) => writeln!(f, "no pass {number}"),
+            Reply::Removed
+            | Reply::HandedIn
+            | Reply::Corrected
+            | Reply::Frozen
+            | Reply::Open
+            | Reply::Billed(_)
+            | Reply::NotOffered => f.write_str(self.fixed_line().unwrap_or("")),
         }
     }
 }
@@ -61,6 +79,9 @@ pub(crate) fn push_reply(
     let reply = made?;
     if let Reply::Billed(end) = reply {
         return text.extend_from_slice(out.get(..end).unwrap_or(out));
+    }
+    if let Some(line) = reply.fixed_line() {
+        return text.extend_from_slice(line.as_bytes());
     }
     let heap = *text.allocator();
     let line = format!(in heap; "{reply}")?;

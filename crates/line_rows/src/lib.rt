@@ -51,6 +51,8 @@ pub fn put_bill<R: SharingRule>(
     let mut charges = [0u64; MOST_CUSTOMERS as usize];
     let mut stations = [0u64; MOST_CUSTOMERS as usize];
     let mut credits = [0u64; MOST_CUSTOMERS as usize];
+    // made first, so that its room is zeroed once
+    let mut text = RowText::new();
     let charges = &mut charges[..customers];
     let stations = &mut stations[..customers];
     let credits = &mut credits[..customers];
@@ -60,7 +62,6 @@ pub fn put_bill<R: SharingRule>(
         stations,
         credits,
     };
-    let mut text = RowText::new();
     push_line(&mut text, line, &columns, left);
     put_bytes(out, place, text.bytes())
 }
