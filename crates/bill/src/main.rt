@@ -6,7 +6,7 @@ ghost use Rattle.bill_report.specs.Failing.{UnlessOutOfMemory};
 ghost use Rattle.bill_report.specs.Report.{report_of};
 ghost use Rattle.bill_report.specs.Shown.{shown_report};
 
-use bill_report::BillError;
+use bill_report::{BillError, ErrorLine};
 use bill_report::report::{RuleName, report_on};
 use std::alloc::Global;
 use std::env;
@@ -46,7 +46,7 @@ fn run(rt: &HostRuntime) -> anyhow::Result<ExitCode> {
         }
         Err(BillError::OutOfMemory) => Err(BillError::OutOfMemory.into()),
         Err(refused) => {
-            rt.eprintln(refused)?;
+            rt.eprint(ErrorLine(refused))?;
             Ok(ExitCode::FAILURE)
         }
     }

@@ -1,7 +1,7 @@
 // Why there is no bill.
 ghost use Rattle.std.specs.Prelude.{◌≡◌, Some};
 ghost use Rattle.bill_report.specs.declared.error.BillError.TheVariants.{Refused, OutOfMemory};
-ghost use Rattle.bill_report.specs.Failing.{error_words};
+ghost use Rattle.bill_report.specs.Failing.{error_words, line_of};
 
 use std::alloc::AllocError;
 use std::error::Error;
@@ -27,6 +27,19 @@ impl fmt::Display for BillError {
 }
 
 impl Error for BillError {}
+
+// An error as the line that the program prints for it, with its line end.
+#[derive(Clone, Copy, PartialEq, Eq, Debug)]
+pub struct ErrorLine(pub BillError);
+
+impl fmt::Display for ErrorLine {
+    ghost output = { λ line. Some (line_of line.0) };
+
+    fn fmt<W: fmt::Write>(&self, f: &mut fmt::Formatter<W>) -> fmt::Result {
+        let ErrorLine(error) = *self;
+        writeln!(f, "{error}")
+    }
+}
 
 impl From<Refusal> for BillError {
     ghost from_gives = { λ refusal e. e ≡ Refused refusal };

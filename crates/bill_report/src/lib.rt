@@ -6,4 +6,4 @@ mod figured;
 pub mod report;
 mod settled;
 
-pub use error::BillError;
+pub use error::{BillError, ErrorLine};
