@@ -21,7 +21,9 @@ pub(crate) struct Basis<'u, 'c> {
 }
 
 impl Basis<'_, '_> {
-    // The line's costs in a cell.
+    // The line's costs in a cell. (A function of its own in the machine too: within the three loops over
+    // the cells of a line its own loop is left without registers.)
+    #[inline(never)]
     pub(crate) fn pool(self, cell: Cell) -> u32
         requires { cost_in self.line.number self.costs.now cell ≤ most_amount }
         ensures { result ≡ cost_in self.entry.line.number self.entry.costs.now cell }
