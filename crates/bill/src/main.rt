@@ -6,8 +6,8 @@ ghost use Rattle.bill_report.specs.Failing.{UnlessOutOfMemory};
 ghost use Rattle.bill_report.specs.Report.{report_of};
 ghost use Rattle.bill_report.specs.Shown.{shown_report};
 
-use bill_report::{BillError, ErrorLine};
 use bill_report::report::{RuleName, report_on};
+use bill_report::{BillError, ErrorLine};
 use std::alloc::Global;
 use std::env;
 use std::io::Read;
