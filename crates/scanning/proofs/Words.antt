@@ -1,23 +1,20 @@
--- Reading a word from the front of a text.
-use Rattle.std.proofs.Common.{◌≡◌, ℕ, ◌+◌, Bool, true, false, cond, ◌&&◌, eqb, List, [], ◌∷◌, length, take, drop, Some, None, Option, Bor, sym, refl, ap, ◌∙◌}
-use Rattle.std.specs.Cmp.Lexicographic.{pointwise}
-use Rattle.std.specs.Option.{option_map, MatchOption}
+-- Reading a word from the front of a text, place by place.
+use Rattle.std.proofs.Common.{◌≡◌, ℕ, ◌+◌, ◌<◌, ◌≤◌, Bool, true, false, cond, eqb, List, [], ◌∷◌, length, get_or, drop, Some, None, Option, refl, arith}
 use Rattle.scanning.specs.Scanning.{after_word}
+use Rattle.std.proofs.lemmas.List.{drop_more, drop_all}
 
-abbrev pub begins : List ℕ → List ℕ → Bool
-begins word text = pointwise eqb (take (length word) text) word
+cond_none : (t : Bool) (o : Option (List ℕ)) → o ≡ None → cond t o None ≡ None
+cond_none true o e = e
+cond_none false o e = refl
 
-both : (s t : Bool) (x y : Option (List ℕ)) → x ≡ cond t y None → cond s x None ≡ cond (s && t) y None
-both true t x y e = e
-both false t x y e = refl
+pub too_short : (word text : List ℕ) → length text < length word → after_word word text ≡ None
+too_short [] text h = absurd (omega arith)
+too_short (w ∷ ws) [] h = refl
+too_short (w ∷ ws) (b ∷ bs) h = cond_none (eqb b w) (after_word ws bs) (too_short ws bs (omega arith))
 
-word_tested : (word text : List ℕ) → after_word word text ≡ cond (begins word text) (Some (drop (length word) text)) None
-word_tested [] text = refl
-word_tested (w ∷ ws) [] = refl
-word_tested (w ∷ ws) (b ∷ bs) = both (eqb b w) (begins ws bs) (after_word ws bs) (Some (drop (length ws) bs)) (word_tested ws bs)
+pub word_step : (word text : List ℕ) (i : ℕ) → i < length word → i < length text →
+    after_word (drop i word) (drop i text) ≡ cond (eqb (get_or text i 0) (get_or word i 0)) (after_word (drop (i + 1) word) (drop (i + 1) text)) None
+word_step word text i p q = rw (drop_more word i 0 p, drop_more text i 0 q)
 
-pub stripped : (word text : List ℕ) (r : Option (Bor (List ℕ))) →
-    MatchOption r (begins word text ≡ false) (λ x. (begins word text ≡ true) × (x.now ≡ drop (length word) text) × (length x.now + length word ≡ length text)) →
-    option_map (λ (x : Bor (List ℕ)). x.now) r ≡ after_word word text
-stripped word text None h = sym (word_tested word text ∙ ap (λ (t : Bool). cond t (Some (drop (length word) text)) None) h)
-stripped word text (Some x) h = ap Some h.1 ∙ sym (word_tested word text ∙ ap (λ (t : Bool). cond t (Some (drop (length word) text)) None) h.0)
+pub word_end : (word text : List ℕ) (i : ℕ) → length word ≤ i → after_word (drop i word) (drop i text) ≡ Some (drop i text)
+word_end word text i p = rw (drop_all i word p)

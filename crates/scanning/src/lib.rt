@@ -13,7 +13,16 @@ pub use unsigned::Number;
 pub fn after_word<'a>(text: &'a [u8], word: &[u8]) -> Option<&'a [u8]>
     ensures { option_map (λ x. x.now) result ≡ after_word word.now text.now }
 {
-    text.strip_prefix(word)
+    // byte by byte: the words are short, and `strip_prefix` takes longer for them
+    if text.len() < word.len() {
+        return None;
+    }
+    for (i, w) in word.iter().enumerate() {
+        if text[i] != *w {
+            return None;
+        }
+    }
+    Some(&text[word.len()..])
 }
 
 // A value, if the text is at its end.

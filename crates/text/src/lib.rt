@@ -81,7 +81,7 @@ fn value_of(digits: &[u8]) -> Option<u32>
 }
 
 // The number of 32 bits that a word writes in decimal digits and nothing else. (Not by `parse`, which
-// goes over a word again as text, and takes half as long again for a short one.)
+// goes over a word again as text, and takes longer.)
 pub fn number_of(word: &[u8]) -> Result<u32, WordFault>
     ensures { result ≡ number_of word.now }
 {
