@@ -1,5 +1,5 @@
 // The start of a word that is no number, as it is shown again.
-ghost use Rattle.std.specs.Prelude.{◌≡◌, ◌<◌, ◌≤◌, take, Some};
+ghost use Rattle.std.specs.Prelude.{◌≡◌, ◌<◌, ◌≤◌, ◌-◌, take, drop, replicate, Some};
 ghost use Rattle.share_report.specs.Report.{shown_byte, shown_word};
 
 use std::fmt;
@@ -20,7 +20,8 @@ fn shown_byte(b: u8) -> char
 }
 
 // The first bytes of a word. They are copied and not borrowed, so that an error can be kept when the
-// text that it came from is gone; in an array with a length, since a refusal allocates nothing.
+// text that it came from is gone; in an array with a length, since a refusal allocates nothing. The bytes
+// behind the length are 0, so that excerpts of the same bytes compare equal.
 #[derive(Clone, Copy, PartialEq, Eq, Debug)]
 pub struct Excerpt {
     bytes: [u8; MOST_SHOWN],
@@ -30,7 +31,8 @@ pub struct Excerpt {
 
 impl Excerpt {
     pub fn of(word: &[u8]) -> Excerpt
-        ensures { take result.length result.bytes ≡ take 40 word.now }
+        ensures shown { take result.length result.bytes ≡ take 40 word.now }
+        ensures blank { drop result.length result.bytes ≡ replicate (40 - result.length) 0 }
     {
         let length = word.len().min(MOST_SHOWN);
         let mut bytes = [0; MOST_SHOWN];
