@@ -3,21 +3,21 @@
 #![tactic(auto)]
 
 ghost use Rattle.share_report.specs.Report.{report_of};
-ghost use Rattle.share_report.specs.Shown.{Answers};
+ghost use Rattle.share_report.specs.Owned.{OwnedAnswers};
 ghost use Rattle.share.specs.Answer.{LeftShown};
 
-use share_report::report::report_on;
-use share_report::{ErrorLine, ShareError};
+use share_report::report::report_owned;
+use share_report::{ErrorLine, OwnedShareError};
 use std::alloc::Global;
 use std::io::Read;
 use std::process::ExitCode;
 
 // The answer to what was read.
-pub fn answer_to(heap: Global, input: &[u8]) -> Result<String, ShareError>
-    ensures answers { Answers result (report_of input.now) }
+pub fn answer_to(heap: Global, input: &[u8]) -> Result<String, OwnedShareError>
+    ensures answers { OwnedAnswers result (report_of input.now) }
     ensures left { LeftShown }
 {
-    report_on(heap, input)
+    report_owned(heap, input)
 }
 
 fn main(rt: HostRuntime) -> anyhow::Result<ExitCode> {
@@ -28,7 +28,7 @@ fn main(rt: HostRuntime) -> anyhow::Result<ExitCode> {
             rt.print(table)?;
             Ok(ExitCode::SUCCESS)
         }
-        Err(error @ ShareError::OutOfMemory) => Err(error.into()),
+        Err(error @ OwnedShareError::OutOfMemory) => Err(error.into()),
         Err(error) => {
             rt.eprint(ErrorLine(error))?;
             Ok(ExitCode::FAILURE)

@@ -1,5 +1,6 @@
--- A column that a rule has filled, the table of two such columns, and the line of an error. Assumes nothing.
-use Rattle.std.proofs.Common.{◌≡◌, ℕ, suc, ◌+◌, ◌<◌, true, false, List, [], ◌∷◌, ◌++◌, length, get_or, map, take, codes, decimal, Ok, Err, Option, Result, sym, refl, ap, ◌∙◌, append_assoc, arith, Global}
+-- A column that a rule has filled, the table of two such columns, the line of an error, and what an owned error keeps.
+-- Assumes nothing.
+use Rattle.std.proofs.Common.{◌≡◌, ℕ, suc, ◌+◌, ◌<◌, Bool, true, false, List, [], ◌∷◌, ◌++◌, length, get_or, map, codes, decimal, Ok, Err, Option, Result, sym, refl, ap, ◌∙◌, append_assoc, arith, Global}
 use Rattle.std.specs.List.{range_with_len, flat_map, enumerate_from, zip}
 use Rattle.std.proofs.lemmas.List.{take-take}
 use Rattle.tariff.proofs.Refused.{ok_tells, err_tells}
@@ -10,11 +11,16 @@ use Rattle.sharing.specs.declared.Division.{Division}
 use Rattle.sharing.specs.Rule.{share_refusal, division}
 use Rattle.sharing.specs.Rules.{down, running}
 use Rattle.sharing.specs.Laws.{down_lawful, running_lawful}
+use Rattle.share_report.specs.declared.error.Misread.{Misread as Misreading}
 use Rattle.share_report.specs.declared.error.ShareError.{ShareError}
 use Rattle.share_report.specs.declared.error.ShareError.TheVariants.{Misread, NothingToShare, Refused, OutOfMemory}
-use Rattle.share_report.specs.Numbers.{BadWord, cut_short}
-use Rattle.share_report.specs.Report.{row_text, row_of, row, head_of, foot_of, table_text, shares_of, shown_byte, shown_word, divided_by, answered}
+use Rattle.share_report.specs.declared.owned.OwnedMisread.{OwnedMisread}
+use Rattle.share_report.specs.declared.owned.OwnedShareError.{OwnedShareError}
+use Rattle.share_report.specs.Numbers.{BadWord, shown_bad}
+use Rattle.share_report.specs.Report.{row_text, row_of, row, head_of, foot_of, table_text, shares_of, shown_byte, shown_word, bad_word, divided_by, answered}
+use Rattle.share_report.specs.Errors.{error_words}
 use Rattle.share_report.specs.Shown.{Reads, Divides, Answers}
+use Rattle.share_report.specs.Owned.{shown_owned, owned_words, OwnedAnswers, KeepsWord, Keeps}
 
 -- rows from a customer on, by the entries or by their numbers
 rows_from : (f : ℕ → List ℕ) (k : ℕ) (us ds rs : List ℕ) → length ds ≡ length us → length rs ≡ length us →
@@ -41,13 +47,6 @@ tabled pool units d r text ed er et =
     ∙ ap (λ t. (head_of pool ++ t) ++ foot_of (division down pool units) (division running pool units)) rows)
     ∙ sym (ap (λ o. divided_by o pool units) td.0)
 
--- what is said of a word that is cut to what is shown of it is what is said of the word
-answered_cut : (means : Result (List ℕ) BadWord) → answered (cut_short means) ≡ answered means
-answered_cut (Ok ns) = refl
-answered_cut (Err e) =
-    ap (λ w. (false, codes "share: word " ++ (decimal e.place ++ (codes ", \"" ++ (map shown_byte w ++ (codes "\", " ++ (fault_words e.fault ++ codes "\n")))))))
-    (take-take 40 40 e.word (omega arith))
-
 -- the words for a bad word and a line end are its line
 bad_line : (place word fault : List ℕ) →
     (codes "share: " ++ (codes "word " ++ (place ++ (codes ", \"" ++ (word ++ (codes "\", " ++ fault)))))) ++ codes "\n"
@@ -60,7 +59,7 @@ bad_line place word fault =
 -- a text whose numbers were not read is answered by the line of the error
 pub not_read : (e : ShareError) (means : Result (List ℕ) BadWord) → Reads {Z = Global} (Err e) means → Answers {Z = Global} (Err e) (answered means)
 not_read (Misread m) means h =
-    ap (λ t. (false, t)) (bad_line (decimal m.place) (shown_word (take m.word.length m.word.bytes)) (fault_words m.fault)) ∙ ap answered h ∙ answered_cut means
+    ap (λ t. (false, t)) (bad_line (decimal m.place) (shown_word m.word.now) (fault_words m.fault)) ∙ ap answered h
 not_read NothingToShare means h = absurd h
 not_read (Refused r) means h = absurd h
 not_read OutOfMemory means h = h
@@ -72,3 +71,30 @@ not_divided NothingToShare o x pool units h = absurd h
 not_divided (Refused r) o x pool units h =
     ap (λ t. (false, t)) (append_assoc (codes "share: ") (refusal_words r) (codes "\n")) ∙ sym (ap (λ t. divided_by t pool units) (err_tells o r x h))
 not_divided OutOfMemory o x pool units h = h
+
+-- what is said of a word that was read
+abbrev said : Result (List ℕ) BadWord → List ℕ
+said (Ok ns) = []
+said (Err e) = bad_word e
+
+-- an owned bad word is told in the words for the bad word, since nothing behind its first 40 bytes is shown
+pub word_told : (m : Misreading) (o : OwnedMisread) → KeepsWord m o → bad_word (shown_owned o) ≡ bad_word (shown_bad m)
+word_told m o kept =
+    ap said kept.0
+    ∙ ap (λ w. codes "word " ++ (decimal m.place ++ (codes ", \"" ++ (map shown_byte w ++ (codes "\", " ++ fault_words m.fault)))))
+    (take-take 40 40 m.word.now (omega arith))
+
+-- an owned error is told in the words for the error that it was made from
+pub error_told : (e : ShareError) (o : OwnedShareError) → Keeps e o → owned_words o ≡ error_words e
+error_told (Misread m) o kept = ap owned_words kept.1 ∙ ap (λ t. codes "share: " ++ t) (word_told m kept.0 kept.2)
+error_told NothingToShare o kept = ap owned_words kept
+error_told (Refused r) o kept = ap owned_words kept
+error_told OutOfMemory o kept = ap owned_words kept
+
+-- an answer is kept where its error is
+pub answer_kept : (e : ShareError) (o : OwnedShareError) (means : Bool × List ℕ) → Keeps e o → Answers {Z = Global} (Err e) means → OwnedAnswers {Z = Global} (Err o) means
+answer_kept (Misread m) o means kept h =
+    rw kept.1 (ap (λ t. (false, (codes "share: " ++ t) ++ codes "\n")) (word_told m kept.0 kept.2) ∙ h)
+answer_kept NothingToShare o means kept h = rw kept h
+answer_kept (Refused r) o means kept h = rw kept h
+answer_kept OutOfMemory o means kept h = rw kept h

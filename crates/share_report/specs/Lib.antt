@@ -1,4 +1,5 @@
 pub mod Errors
 pub mod Numbers
+pub mod Owned
 pub mod Report
 pub mod Shown

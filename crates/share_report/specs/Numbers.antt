@@ -3,9 +3,11 @@
 --   after       numbers before the numbers of what follows
 --   read_words  the numbers that words write, the first of them at place k, or the first bad word
 --   numbers_of  the numbers that a text writes, or its first bad word
---   cut_short   the same, with the bad word cut to its first 40 bytes, which are all that is shown of it
+--   shown_bad   a bad word of the code, by what it holds
+--   cut_short   the numbers, or a bad word cut to its first 40 bytes, which are all that is shown of it
 use Rattle.std.specs.Prelude.{ℕ, ◌+◌, List, [], ◌∷◌, ◌++◌, take, Ok, Err, Result}
 use Rattle.text.specs.declared.WordFault.{WordFault}
+use Rattle.share_report.specs.declared.error.Misread.{Misread}
 use Rattle.text.specs.Words.{words, number_of}
 
 pub record BadWord : Type 0 where
@@ -27,6 +29,9 @@ read_words k (w ∷ ws) = read_word k w (number_of w) (read_words (k + 1) ws)
 
 abbrev pub numbers_of : List ℕ → Result (List ℕ) BadWord
 numbers_of text = read_words 1 (words text)
+
+abbrev pub shown_bad : Misread → BadWord
+shown_bad m = record { place = m.place; word = m.word.now; fault = m.fault }
 
 abbrev pub cut_short : Result (List ℕ) BadWord → Result (List ℕ) BadWord
 cut_short (Ok ns) = Ok ns

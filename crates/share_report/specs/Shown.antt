@@ -1,5 +1,5 @@
 -- What the code answers, by what it means. Nothing is said of an answer for which there was no memory.
---   Reads       the numbers of a text were read, or its first bad word was, as far as that is shown
+--   Reads       the numbers of a text were read, or its first bad word was
 --   Divides     a pool was divided by a rule, or the rule's refusal was given
 --   error_line  the line for an error
 --   Answers     the table was given where the text is accepted, and else an error whose line is that of the answer
@@ -9,12 +9,12 @@ use Rattle.sharing.specs.declared.Division.{Division}
 use Rattle.share_report.specs.declared.error.ShareError.{ShareError}
 use Rattle.share_report.specs.declared.error.ShareError.TheVariants.{Misread, NothingToShare, Refused, OutOfMemory}
 use Rattle.share_report.specs.declared.table.Shares.{Shares}
-use Rattle.share_report.specs.Numbers.{BadWord, cut_short}
-use Rattle.share_report.specs.Errors.{shown_bad, error_words}
+use Rattle.share_report.specs.Numbers.{BadWord, shown_bad}
+use Rattle.share_report.specs.Errors.{error_words}
 
 abbrev pub Reads : {Z : Type 0} → Result (Vec ℕ Z) ShareError → Result (List ℕ) BadWord → Type 0
 Reads (Ok v) means = Ok (vec_items v) ≡ means
-Reads (Err (Misread m)) means = Err (shown_bad m) ≡ cut_short means
+Reads (Err (Misread m)) means = Err (shown_bad m) ≡ means
 Reads (Err NothingToShare) means = ⊥
 Reads (Err (Refused e)) means = ⊥
 Reads (Err OutOfMemory) means = ⊤

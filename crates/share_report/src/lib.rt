@@ -4,8 +4,10 @@
 mod error;
 mod excerpt;
 mod numbers;
+mod owned;
 pub mod report;
 mod table;
 
-pub use error::{ErrorLine, Misread, ShareError};
+pub use error::{Misread, ShareError};
 pub use excerpt::Excerpt;
+pub use owned::{ErrorLine, OwnedMisread, OwnedShareError};

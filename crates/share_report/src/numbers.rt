@@ -3,12 +3,11 @@ ghost use Rattle.share_report.specs.Numbers.{numbers_of};
 ghost use Rattle.share_report.specs.Shown.{Reads};
 
 use crate::error::{Misread, ShareError};
-use crate::excerpt::Excerpt;
 use std::alloc::Global;
 use text::{Words, number_of};
 
 // The numbers that the words of a text write, or the first word that writes none.
-pub fn read_numbers(heap: Global, text: &[u8]) -> Result<Vec<u32>, ShareError>
+pub fn read_numbers<'a>(heap: Global, text: &'a [u8]) -> Result<Vec<u32>, ShareError<'a>>
     ensures { Reads result (numbers_of text.now) }
 {
     let mut numbers = Vec::new(heap);
@@ -16,7 +15,7 @@ pub fn read_numbers(heap: Global, text: &[u8]) -> Result<Vec<u32>, ShareError>
         let place = numbers.len() + 1;
         let number = number_of(word).map_err(|fault| ShareError::Misread(Misread {
             place,
-            word: Excerpt::of(word),
+            word,
             fault,
         }))?;
         numbers.push(number)?;

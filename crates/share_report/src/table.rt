@@ -16,12 +16,12 @@ pub struct Shares {
 }
 
 impl Shares {
-    pub fn by<R: SharingRule>(
+    pub fn by<'e, R: SharingRule>(
         rule: &mut R,
         heap: Global,
         pool: u32,
         units: &[u32],
-    ) -> Result<Shares, ShareError>
+    ) -> Result<Shares, ShareError<'e>>
         ensures { Divides result (shares_of (R.meaning rule.old) pool units.now) }
     {
         let mut column = vec![in heap; 0u32; units.len()]?;

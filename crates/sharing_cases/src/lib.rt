@@ -3,11 +3,12 @@
 
 #[cfg(test)]
 mod tests {
-    use share_report::ErrorLine;
-    use share_report::report::report_on;
+    use share_report::report::{report_on, report_owned};
+    use share_report::{ErrorLine, Misread, ShareError};
     use sharing::{Division, Down, Running, SharingRule, divide};
     use std::test::Fail;
     use tariff::Refusal;
+    use text::WordFault;
 
     const LIMIT: u32 = 2_147_483_647;
 
@@ -153,47 +154,81 @@ mod tests {
 
     #[test]
     fn a_table_is_answered(rt: HostRuntime) -> Result<(), Fail> {
+        let told =
+            "pool 100\ncustomer units down running\n0 100 33 33\n1 100 33 33\n2 100 33 34\nsum 300 99 100\nleft over 1 0\n";
         let table = report_on(rt.alloc(), b"100\n100 100 100")?;
-        assert_eq!(rt;
-            table.as_str(),
-            "pool 100\ncustomer units down running\n0 100 33 33\n1 100 33 33\n2 100 33 34\nsum 300 99 100\nleft over 1 0\n"
-        );
+        assert_eq!(rt; table.as_str(), told);
+        let owned = report_owned(rt.alloc(), b"100\n100 100 100")?;
+        assert_eq!(rt; owned.as_str(), told);
         Ok(())
     }
+
+    // Texts that have no table, and the line that says why.
+    const REFUSED: [(&[u8], &str); 7] = [
+        (
+            b"",
+            "share: word 1 is missing: the pool in cents, and after it the units of each customer\n",
+        ),
+        (
+            b" \n\t",
+            "share: word 1 is missing: the pool in cents, and after it the units of each customer\n",
+        ),
+        (b"100 x1", "share: word 2, \"x1\", is not a whole number\n"),
+        (b"-1", "share: word 1, \"-1\", is not a whole number\n"),
+        (
+            b"1 2 4294967296",
+            "share: word 3, \"4294967296\", is above 4294967295\n",
+        ),
+        (
+            b"1\t\xff\x07",
+            "share: word 2, \"??\", is not a whole number\n",
+        ),
+        (
+            b"2147483648 1",
+            "share: refusal 15: a sharing rule takes at most 256 customers, one place a customer, and a pool and a sum of units of at most 2147483647\n",
+        ),
+    ];
 
     #[test]
     fn the_shell_is_told_why(rt: HostRuntime) -> Result<(), Fail> {
         let heap = rt.alloc();
-        let cases: [(&[u8], &str); 7] = [
-            (
-                b"",
-                "share: word 1 is missing: the pool in cents, and after it the units of each customer\n",
-            ),
-            (
-                b" \n\t",
-                "share: word 1 is missing: the pool in cents, and after it the units of each customer\n",
-            ),
-            (b"100 x1", "share: word 2, \"x1\", is not a whole number\n"),
-            (b"-1", "share: word 1, \"-1\", is not a whole number\n"),
-            (
-                b"1 2 4294967296",
-                "share: word 3, \"4294967296\", is above 4294967295\n",
-            ),
-            (
-                b"1\t\xff\x07",
-                "share: word 2, \"??\", is not a whole number\n",
-            ),
-            (
-                b"2147483648 1",
-                "share: refusal 15: a sharing rule takes at most 256 customers, one place a customer, and a pool and a sum of units of at most 2147483647\n",
-            ),
-        ];
-        for (input, line) in cases {
-            let error = report_on(heap, input).expect_err(&rt, "a line that says why");
+        for (input, line) in REFUSED {
+            let error = report_owned(heap, input).expect_err(&rt, "a line that says why");
             let error_line = ErrorLine(error);
             let told = format!(in heap; "{error_line}")?;
             assert_eq!(rt; told.as_str(), line);
         }
+        Ok(())
+    }
+
+    #[test]
+    fn an_error_that_borrows_the_text_says_the_same(rt: HostRuntime) -> Result<(), Fail> {
+        let heap = rt.alloc();
+        for (input, line) in REFUSED {
+            let error = report_on(heap, input).expect_err(&rt, "a line that says why");
+            let told = format!(in heap; "{error}\n")?;
+            assert_eq!(rt; told.as_str(), line);
+        }
+        Ok(())
+    }
+
+    #[test]
+    fn a_long_bad_word_is_held_whole_and_shown_in_part(rt: HostRuntime) -> Result<(), Fail> {
+        let heap = rt.alloc();
+        let text = b"7 12345678901234567890123456789012345678901x3";
+        let error = report_on(heap, text).expect_err(&rt, "a bad word");
+        let misread = Misread {
+            place: 2,
+            word: b"12345678901234567890123456789012345678901x3",
+            fault: WordFault::NotANumber,
+        };
+        assert_eq!(rt; error, ShareError::Misread(misread));
+        let owned = report_owned(heap, text).expect_err(&rt, "a bad word");
+        let told = format!(in heap; "{owned}")?;
+        assert_eq!(rt;
+            told.as_str(),
+            "share: word 2, \"1234567890123456789012345678901234567890\", is not a whole number"
+        );
         Ok(())
     }
 }

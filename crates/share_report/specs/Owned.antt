@@ -1,0 +1,46 @@
+-- What an answer that borrows nothing means: an owned error keeps the start of a bad word, which is all that is shown.
+--   shown_owned   a bad word of the code, by what it holds: the start of the word
+--   owned_words   the words for an owned error, which are those for the error that it was made from
+--   owned_line    the line for an owned error
+--   OwnedAnswers  the table was given where the text is accepted, and else an owned error whose line is that of the answer
+--   KeepsWord     an owned bad word is a bad word cut short, with nothing behind its bytes
+--   Keeps         an owned error says why as an error does
+use Rattle.std.specs.Prelude.{◌≡◌, ℕ, ◌-◌, Bool, true, false, List, ◌++◌, take, drop, replicate, Ok, Err, codes, string_bytes, Result, String, ⊤}
+use Rattle.tariff.specs.Refusals.{words as refusal_words}
+use Rattle.share_report.specs.declared.error.Misread.{Misread as Misreading}
+use Rattle.share_report.specs.declared.error.ShareError.{ShareError}
+use Rattle.share_report.specs.declared.error.ShareError.TheVariants.{Misread as LentMisread, NothingToShare as LentNothing, Refused as LentRefused, OutOfMemory as LentOutOfMemory}
+use Rattle.share_report.specs.declared.owned.OwnedMisread.{OwnedMisread}
+use Rattle.share_report.specs.declared.owned.OwnedShareError.{OwnedShareError}
+use Rattle.share_report.specs.declared.owned.OwnedShareError.TheVariants.{Misread, NothingToShare, Refused, OutOfMemory}
+use Rattle.share_report.specs.Numbers.{BadWord, shown_bad, cut_short}
+use Rattle.share_report.specs.Report.{bad_word}
+
+abbrev pub shown_owned : OwnedMisread → BadWord
+shown_owned m = record { place = m.place; word = take m.word.length m.word.bytes; fault = m.fault }
+
+abbrev pub owned_words : OwnedShareError → List ℕ
+owned_words (Misread m) = codes "share: " ++ bad_word (shown_owned m)
+owned_words NothingToShare = codes "share: word 1 is missing: the pool in cents, and after it the units of each customer"
+owned_words (Refused e) = codes "share: " ++ refusal_words e
+owned_words OutOfMemory = codes "memory allocation failed"
+
+-- the line for an error: its words and a line end
+abbrev pub owned_line : OwnedShareError → List ℕ
+owned_line e = owned_words e ++ codes "\n"
+
+abbrev pub OwnedAnswers : {Z : Type 0} → Result (String Z) OwnedShareError → Bool × List ℕ → Type 0
+OwnedAnswers (Ok table) means = (true, string_bytes table) ≡ means
+OwnedAnswers (Err (Misread m)) means = (false, owned_line (Misread m)) ≡ means
+OwnedAnswers (Err NothingToShare) means = (false, owned_line NothingToShare) ≡ means
+OwnedAnswers (Err (Refused e)) means = (false, owned_line (Refused e)) ≡ means
+OwnedAnswers (Err OutOfMemory) means = ⊤
+
+abbrev pub KeepsWord : Misreading → OwnedMisread → Type 0
+KeepsWord m o = (Err (shown_owned o) ≡ cut_short (Err (shown_bad m))) × (drop o.word.length o.word.bytes ≡ replicate (40 - o.word.length) 0)
+
+abbrev pub Keeps : ShareError → OwnedShareError → Type 0
+Keeps (LentMisread m) e = (o : OwnedMisread) × (e ≡ Misread o) × KeepsWord m o
+Keeps LentNothing e = e ≡ NothingToShare
+Keeps (LentRefused refusal) e = e ≡ Refused refusal
+Keeps LentOutOfMemory e = e ≡ OutOfMemory
