@@ -1,6 +1,6 @@
--- A column that a rule has filled, the table of two such columns, the line of an error, and what an owned error keeps.
--- Assumes nothing.
-use Rattle.std.proofs.Common.{◌≡◌, ℕ, suc, ◌+◌, ◌<◌, Bool, true, false, List, [], ◌∷◌, ◌++◌, length, get_or, map, codes, decimal, Ok, Err, Option, Result, sym, refl, ap, ◌∙◌, append_assoc, arith, Global}
+-- A column that a rule has filled, the table of two such columns, the line of an owned error, and what such an error
+-- keeps. Assumes nothing.
+use Rattle.std.proofs.Common.{◌≡◌, ℕ, suc, ◌+◌, ◌<◌, Bool, true, false, List, [], ◌∷◌, ◌++◌, length, get_or, map, take, codes, decimal, Ok, Err, Option, Result, sym, refl, ap, ◌∙◌, append_assoc, arith, Global}
 use Rattle.std.specs.List.{range_with_len, flat_map, enumerate_from, zip}
 use Rattle.std.proofs.lemmas.List.{take-take}
 use Rattle.tariff.proofs.Refused.{ok_tells, err_tells}
@@ -13,14 +13,15 @@ use Rattle.sharing.specs.Rules.{down, running}
 use Rattle.sharing.specs.Laws.{down_lawful, running_lawful}
 use Rattle.share_report.specs.declared.error.Misread.{Misread as Misreading}
 use Rattle.share_report.specs.declared.error.ShareError.{ShareError}
-use Rattle.share_report.specs.declared.error.ShareError.TheVariants.{Misread, NothingToShare, Refused, OutOfMemory}
+use Rattle.share_report.specs.declared.error.ShareError.TheVariants.{Misread as LentMisread, NothingToShare as LentNothing, Refused as LentRefused, OutOfMemory as LentOutOfMemory}
 use Rattle.share_report.specs.declared.owned.OwnedMisread.{OwnedMisread}
 use Rattle.share_report.specs.declared.owned.OwnedShareError.{OwnedShareError}
-use Rattle.share_report.specs.Numbers.{BadWord, shown_bad}
+use Rattle.share_report.specs.declared.owned.OwnedShareError.TheVariants.{Misread, NothingToShare, Refused, OutOfMemory}
+use Rattle.share_report.specs.Numbers.{BadWord, shown_bad, cut_short}
 use Rattle.share_report.specs.Report.{row_text, row_of, row, head_of, foot_of, table_text, shares_of, shown_byte, shown_word, bad_word, divided_by, answered}
 use Rattle.share_report.specs.Errors.{error_words}
-use Rattle.share_report.specs.Shown.{Reads, Divides, Answers}
-use Rattle.share_report.specs.Owned.{shown_owned, owned_words, OwnedAnswers, KeepsWord, Keeps}
+use Rattle.share_report.specs.Shown.{Answers}
+use Rattle.share_report.specs.Owned.{shown_owned, owned_words, OwnedReads, OwnedDivides, OwnedAnswers, KeepsWord, Keeps}
 
 -- rows from a customer on, by the entries or by their numbers
 rows_from : (f : ℕ → List ℕ) (k : ℕ) (us ds rs : List ℕ) → length ds ≡ length us → length rs ≡ length us →
@@ -47,6 +48,13 @@ tabled pool units d r text ed er et =
     ∙ ap (λ t. (head_of pool ++ t) ++ foot_of (division down pool units) (division running pool units)) rows)
     ∙ sym (ap (λ o. divided_by o pool units) td.0)
 
+-- what is said of a word that is cut to what is shown of it is what is said of the word
+answered_cut : (means : Result (List ℕ) BadWord) → answered (cut_short means) ≡ answered means
+answered_cut (Ok ns) = refl
+answered_cut (Err e) =
+    ap (λ w. (false, codes "share: word " ++ (decimal e.place ++ (codes ", \"" ++ (map shown_byte w ++ (codes "\", " ++ (fault_words e.fault ++ codes "\n")))))))
+    (take-take 40 40 e.word (omega arith))
+
 -- the words for a bad word and a line end are its line
 bad_line : (place word fault : List ℕ) →
     (codes "share: " ++ (codes "word " ++ (place ++ (codes ", \"" ++ (word ++ (codes "\", " ++ fault)))))) ++ codes "\n"
@@ -57,15 +65,15 @@ bad_line place word fault =
     ∙ ap (λ t. place ++ (codes ", \"" ++ t)) (append_assoc word (codes "\", " ++ fault) (codes "\n")))
 
 -- a text whose numbers were not read is answered by the line of the error
-pub not_read : (e : ShareError) (means : Result (List ℕ) BadWord) → Reads {Z = Global} (Err e) means → Answers {Z = Global} (Err e) (answered means)
+pub not_read : (e : OwnedShareError) (means : Result (List ℕ) BadWord) → OwnedReads {Z = Global} (Err e) means → OwnedAnswers {Z = Global} (Err e) (answered means)
 not_read (Misread m) means h =
-    ap (λ t. (false, t)) (bad_line (decimal m.place) (shown_word m.word.now) (fault_words m.fault)) ∙ ap answered h
+    ap (λ t. (false, t)) (bad_line (decimal m.place) (shown_word (take m.word.length m.word.bytes)) (fault_words m.fault)) ∙ ap answered h ∙ answered_cut means
 not_read NothingToShare means h = absurd h
 not_read (Refused r) means h = absurd h
 not_read OutOfMemory means h = h
 
 -- what a rule refused is answered by the line of the error
-pub not_divided : (e : ShareError) (o : Option Refusal) (x : List ℕ × Division) (pool : ℕ) (units : List ℕ) → Divides (Err e) (answer o x) → Answers {Z = Global} (Err e) (divided_by o pool units)
+pub not_divided : (e : OwnedShareError) (o : Option Refusal) (x : List ℕ × Division) (pool : ℕ) (units : List ℕ) → OwnedDivides (Err e) (answer o x) → OwnedAnswers {Z = Global} (Err e) (divided_by o pool units)
 not_divided (Misread m) o x pool units h = absurd h
 not_divided NothingToShare o x pool units h = absurd h
 not_divided (Refused r) o x pool units h =
@@ -86,15 +94,15 @@ word_told m o kept =
 
 -- an owned error is told in the words for the error that it was made from
 pub error_told : (e : ShareError) (o : OwnedShareError) → Keeps e o → owned_words o ≡ error_words e
-error_told (Misread m) o kept = ap owned_words kept.1 ∙ ap (λ t. codes "share: " ++ t) (word_told m kept.0 kept.2)
-error_told NothingToShare o kept = ap owned_words kept
-error_told (Refused r) o kept = ap owned_words kept
-error_told OutOfMemory o kept = ap owned_words kept
+error_told (LentMisread m) o kept = ap owned_words kept.1 ∙ ap (λ t. codes "share: " ++ t) (word_told m kept.0 kept.2)
+error_told LentNothing o kept = ap owned_words kept
+error_told (LentRefused r) o kept = ap owned_words kept
+error_told LentOutOfMemory o kept = ap owned_words kept
 
 -- an answer is kept where its error is
 pub answer_kept : (e : ShareError) (o : OwnedShareError) (means : Bool × List ℕ) → Keeps e o → Answers {Z = Global} (Err e) means → OwnedAnswers {Z = Global} (Err o) means
-answer_kept (Misread m) o means kept h =
+answer_kept (LentMisread m) o means kept h =
     rw kept.1 (ap (λ t. (false, (codes "share: " ++ t) ++ codes "\n")) (word_told m kept.0 kept.2) ∙ h)
-answer_kept NothingToShare o means kept h = rw kept h
-answer_kept (Refused r) o means kept h = rw kept h
-answer_kept OutOfMemory o means kept h = rw kept h
+answer_kept LentNothing o means kept h = rw kept h
+answer_kept (LentRefused r) o means kept h = rw kept h
+answer_kept LentOutOfMemory o means kept h = rw kept h

@@ -2,17 +2,22 @@
 --   shown_owned   a bad word of the code, by what it holds: the start of the word
 --   owned_words   the words for an owned error, which are those for the error that it was made from
 --   owned_line    the line for an owned error
+--   OwnedReads    the numbers of a text were read, or its first bad word was, as far as that is shown
+--   OwnedDivides  a pool was divided by a rule, or the rule's refusal was given
 --   OwnedAnswers  the table was given where the text is accepted, and else an owned error whose line is that of the answer
 --   KeepsWord     an owned bad word is a bad word cut short, with nothing behind its bytes
 --   Keeps         an owned error says why as an error does
-use Rattle.std.specs.Prelude.{◌≡◌, ℕ, ◌-◌, Bool, true, false, List, ◌++◌, take, drop, replicate, Ok, Err, codes, string_bytes, Result, String, ⊤}
+use Rattle.std.specs.Prelude.{◌≡◌, ℕ, ◌-◌, Bool, true, false, List, ◌++◌, take, drop, replicate, Ok, Err, codes, vec_items, string_bytes, Result, Vec, String, ⊤}
+use Rattle.tariff.specs.declared.refusal.Refusal.{Refusal}
 use Rattle.tariff.specs.Refusals.{words as refusal_words}
+use Rattle.sharing.specs.declared.Division.{Division}
 use Rattle.share_report.specs.declared.error.Misread.{Misread as Misreading}
 use Rattle.share_report.specs.declared.error.ShareError.{ShareError}
 use Rattle.share_report.specs.declared.error.ShareError.TheVariants.{Misread as LentMisread, NothingToShare as LentNothing, Refused as LentRefused, OutOfMemory as LentOutOfMemory}
 use Rattle.share_report.specs.declared.owned.OwnedMisread.{OwnedMisread}
 use Rattle.share_report.specs.declared.owned.OwnedShareError.{OwnedShareError}
 use Rattle.share_report.specs.declared.owned.OwnedShareError.TheVariants.{Misread, NothingToShare, Refused, OutOfMemory}
+use Rattle.share_report.specs.declared.table.Shares.{Shares}
 use Rattle.share_report.specs.Numbers.{BadWord, shown_bad, cut_short}
 use Rattle.share_report.specs.Report.{bad_word}
 
@@ -28,6 +33,20 @@ owned_words OutOfMemory = codes "memory allocation failed"
 -- the line for an error: its words and a line end
 abbrev pub owned_line : OwnedShareError → List ℕ
 owned_line e = owned_words e ++ codes "\n"
+
+abbrev pub OwnedReads : {Z : Type 0} → Result (Vec ℕ Z) OwnedShareError → Result (List ℕ) BadWord → Type 0
+OwnedReads (Ok v) means = Ok (vec_items v) ≡ means
+OwnedReads (Err (Misread m)) means = Err (shown_owned m) ≡ cut_short means
+OwnedReads (Err NothingToShare) means = ⊥
+OwnedReads (Err (Refused e)) means = ⊥
+OwnedReads (Err OutOfMemory) means = ⊤
+
+abbrev pub OwnedDivides : Result Shares OwnedShareError → Result (List ℕ × Division) Refusal → Type 0
+OwnedDivides (Ok s) means = Ok (vec_items s.column, s.division) ≡ means
+OwnedDivides (Err (Misread m)) means = ⊥
+OwnedDivides (Err NothingToShare) means = ⊥
+OwnedDivides (Err (Refused e)) means = Err e ≡ means
+OwnedDivides (Err OutOfMemory) means = ⊤
 
 abbrev pub OwnedAnswers : {Z : Type 0} → Result (String Z) OwnedShareError → Bool × List ℕ → Type 0
 OwnedAnswers (Ok table) means = (true, string_bytes table) ≡ means

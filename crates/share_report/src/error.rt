@@ -1,9 +1,10 @@
-// Why a text is answered with no table, in the text's own bytes.
+// Why a text is answered with no table, in the text's own bytes, and the line that says so.
 ghost use Rattle.std.specs.Prelude.{◌≡◌, Some};
 ghost use Rattle.share_report.specs.declared.error.ShareError.TheVariants.{Refused, OutOfMemory};
 ghost use Rattle.share_report.specs.Report.{bad_word};
 ghost use Rattle.share_report.specs.Numbers.{shown_bad};
 ghost use Rattle.share_report.specs.Errors.{error_words};
+ghost use Rattle.share_report.specs.Owned.{owned_line};
 
 use crate::owned::{OwnedMisread, OwnedShareError};
 use std::alloc::{AllocError, AllocFailed};
@@ -48,6 +49,19 @@ impl fmt::Display for ShareError<'_> {
 }
 
 impl Error for ShareError<'_> {}
+
+// An error as the line that the program prints of it.
+#[derive(Clone, Copy, PartialEq, Eq, Debug)]
+pub struct ErrorLine(pub OwnedShareError);
+
+impl fmt::Display for ErrorLine {
+    ghost output = { λ line. Some (owned_line line.0) };
+
+    fn fmt<W: fmt::Write>(&self, f: &mut fmt::Formatter<W>) -> fmt::Result {
+        let ErrorLine(error) = *self;
+        writeln!(f, "{error}")
+    }
+}
 
 impl From<Refusal> for ShareError<'_> {
     ghost from_gives = { λ refusal e. e ≡ Refused refusal };

@@ -8,6 +8,6 @@ mod owned;
 pub mod report;
 mod table;
 
-pub use error::{Misread, ShareError};
+pub use error::{ErrorLine, Misread, ShareError};
 pub use excerpt::Excerpt;
-pub use owned::{ErrorLine, OwnedMisread, OwnedShareError};
+pub use owned::{OwnedMisread, OwnedShareError};

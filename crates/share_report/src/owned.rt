@@ -2,7 +2,7 @@
 ghost use Rattle.std.specs.Prelude.{◌≡◌, Some};
 ghost use Rattle.share_report.specs.declared.owned.OwnedShareError.TheVariants.{Refused, OutOfMemory};
 ghost use Rattle.share_report.specs.Report.{bad_word};
-ghost use Rattle.share_report.specs.Owned.{shown_owned, owned_words, owned_line, KeepsWord, Keeps};
+ghost use Rattle.share_report.specs.Owned.{shown_owned, owned_words, KeepsWord, Keeps};
 
 use crate::error::{Misread, ShareError};
 use crate::excerpt::Excerpt;
@@ -54,19 +54,6 @@ impl fmt::Display for OwnedShareError {
 }
 
 impl Error for OwnedShareError {}
-
-// An error as the line that the program prints of it.
-#[derive(Clone, Copy, PartialEq, Eq, Debug)]
-pub struct ErrorLine(pub OwnedShareError);
-
-impl fmt::Display for ErrorLine {
-    ghost output = { λ line. Some (owned_line line.0) };
-
-    fn fmt<W: fmt::Write>(&self, f: &mut fmt::Formatter<W>) -> fmt::Result {
-        let ErrorLine(error) = *self;
-        writeln!(f, "{error}")
-    }
-}
 
 impl From<Misread<'_>> for OwnedMisread {
     ghost from_gives = { λ m owned. KeepsWord m owned };

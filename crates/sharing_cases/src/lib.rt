@@ -4,8 +4,9 @@
 #[cfg(test)]
 mod tests {
     use share_report::report::{report_on, report_owned};
-    use share_report::{ErrorLine, Misread, ShareError};
+    use share_report::{ErrorLine, Misread, OwnedShareError, ShareError};
     use sharing::{Division, Down, Running, SharingRule, divide};
+    use std::alloc::AllocError;
     use std::test::Fail;
     use tariff::Refusal;
     use text::WordFault;
@@ -223,11 +224,30 @@ mod tests {
             fault: WordFault::NotANumber,
         };
         assert_eq!(rt; error, ShareError::Misread(misread));
+        let word = format!(in heap; "{misread}")?;
+        assert_eq!(rt;
+            word.as_str(),
+            "word 2, \"1234567890123456789012345678901234567890\", is not a whole number"
+        );
         let owned = report_owned(heap, text).expect_err(&rt, "a bad word");
+        assert_eq!(rt; owned, OwnedShareError::from(error));
         let told = format!(in heap; "{owned}")?;
         assert_eq!(rt;
             told.as_str(),
             "share: word 2, \"1234567890123456789012345678901234567890\", is not a whole number"
+        );
+        Ok(())
+    }
+
+    #[test]
+    fn an_owned_error_is_made_of_what_went_wrong(rt: HostRuntime) -> Result<(), Fail> {
+        assert_eq!(rt;
+            OwnedShareError::from(Refusal::RuleInput),
+            OwnedShareError::Refused(Refusal::RuleInput)
+        );
+        assert_eq!(rt;
+            OwnedShareError::from(AllocError),
+            OwnedShareError::OutOfMemory
         );
         Ok(())
     }
