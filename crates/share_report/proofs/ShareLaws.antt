@@ -13,7 +13,7 @@ use Rattle.sharing.specs.Rules.{down, running}
 use Rattle.sharing.specs.Laws.{down_lawful, running_lawful}
 use Rattle.share_report.specs.declared.error.Misread.{Misread as Misreading}
 use Rattle.share_report.specs.declared.error.ShareError.{ShareError}
-use Rattle.share_report.specs.declared.error.ShareError.TheVariants.{Misread as LentMisread, NothingToShare as LentNothing, Refused as LentRefused, OutOfMemory as LentOutOfMemory}
+use Rattle.share_report.specs.declared.error.ShareError.TheVariants.{Misread as BorrowedMisread, NothingToShare as BorrowedNothing, Refused as BorrowedRefused, OutOfMemory as BorrowedOutOfMemory}
 use Rattle.share_report.specs.declared.owned.OwnedMisread.{OwnedMisread}
 use Rattle.share_report.specs.declared.owned.OwnedShareError.{OwnedShareError}
 use Rattle.share_report.specs.declared.owned.OwnedShareError.TheVariants.{Misread, NothingToShare, Refused, OutOfMemory}
@@ -94,15 +94,15 @@ word_told m o kept =
 
 -- an owned error is told in the words for the error that it was made from
 pub error_told : (e : ShareError) (o : OwnedShareError) → Keeps e o → owned_words o ≡ error_words e
-error_told (LentMisread m) o kept = ap owned_words kept.1 ∙ ap (λ t. codes "share: " ++ t) (word_told m kept.0 kept.2)
-error_told LentNothing o kept = ap owned_words kept
-error_told (LentRefused r) o kept = ap owned_words kept
-error_told LentOutOfMemory o kept = ap owned_words kept
+error_told (BorrowedMisread m) o kept = ap owned_words kept.1 ∙ ap (λ t. codes "share: " ++ t) (word_told m kept.0 kept.2)
+error_told BorrowedNothing o kept = ap owned_words kept
+error_told (BorrowedRefused r) o kept = ap owned_words kept
+error_told BorrowedOutOfMemory o kept = ap owned_words kept
 
 -- an answer is kept where its error is
 pub answer_kept : (e : ShareError) (o : OwnedShareError) (means : Bool × List ℕ) → Keeps e o → Answers {Z = Global} (Err e) means → OwnedAnswers {Z = Global} (Err o) means
-answer_kept (LentMisread m) o means kept h =
+answer_kept (BorrowedMisread m) o means kept h =
     rw kept.1 (ap (λ t. (false, (codes "share: " ++ t) ++ codes "\n")) (word_told m kept.0 kept.2) ∙ h)
-answer_kept LentNothing o means kept h = rw kept h
-answer_kept (LentRefused r) o means kept h = rw kept h
-answer_kept LentOutOfMemory o means kept h = rw kept h
+answer_kept BorrowedNothing o means kept h = rw kept h
+answer_kept (BorrowedRefused r) o means kept h = rw kept h
+answer_kept BorrowedOutOfMemory o means kept h = rw kept h

@@ -1,6 +1,7 @@
 -- What an answer that borrows nothing means: an owned error keeps the start of a bad word, which is all that is shown.
+-- Nothing is said of an answer for which there was no memory.
 --   shown_owned   a bad word of the code, by what it holds: the start of the word
---   owned_words   the words for an owned error, which are those for the error that it was made from
+--   owned_words   the words for an owned error, as a user reads them: the program's name, and what is wrong
 --   owned_line    the line for an owned error
 --   OwnedReads    the numbers of a text were read, or its first bad word was, as far as that is shown
 --   OwnedDivides  a pool was divided by a rule, or the rule's refusal was given
@@ -13,7 +14,7 @@ use Rattle.tariff.specs.Refusals.{words as refusal_words}
 use Rattle.sharing.specs.declared.Division.{Division}
 use Rattle.share_report.specs.declared.error.Misread.{Misread as Misreading}
 use Rattle.share_report.specs.declared.error.ShareError.{ShareError}
-use Rattle.share_report.specs.declared.error.ShareError.TheVariants.{Misread as LentMisread, NothingToShare as LentNothing, Refused as LentRefused, OutOfMemory as LentOutOfMemory}
+use Rattle.share_report.specs.declared.error.ShareError.TheVariants.{Misread as BorrowedMisread, NothingToShare as BorrowedNothing, Refused as BorrowedRefused, OutOfMemory as BorrowedOutOfMemory}
 use Rattle.share_report.specs.declared.owned.OwnedMisread.{OwnedMisread}
 use Rattle.share_report.specs.declared.owned.OwnedShareError.{OwnedShareError}
 use Rattle.share_report.specs.declared.owned.OwnedShareError.TheVariants.{Misread, NothingToShare, Refused, OutOfMemory}
@@ -59,7 +60,7 @@ abbrev pub KeepsWord : Misreading → OwnedMisread → Type 0
 KeepsWord m o = (Err (shown_owned o) ≡ cut_short (Err (shown_bad m))) × (drop o.word.length o.word.bytes ≡ replicate (40 - o.word.length) 0)
 
 abbrev pub Keeps : ShareError → OwnedShareError → Type 0
-Keeps (LentMisread m) e = (o : OwnedMisread) × (e ≡ Misread o) × KeepsWord m o
-Keeps LentNothing e = e ≡ NothingToShare
-Keeps (LentRefused refusal) e = e ≡ Refused refusal
-Keeps LentOutOfMemory e = e ≡ OutOfMemory
+Keeps (BorrowedMisread m) e = (o : OwnedMisread) × (e ≡ Misread o) × KeepsWord m o
+Keeps BorrowedNothing e = e ≡ NothingToShare
+Keeps (BorrowedRefused refusal) e = e ≡ Refused refusal
+Keeps BorrowedOutOfMemory e = e ≡ OutOfMemory
